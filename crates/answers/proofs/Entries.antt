@@ -1,9 +1,7 @@
 -- Entries and lists together.
-use Rattle.std.proofs.Common.{◌≡◌, ℕ, zero, suc, ◌+◌, ◌<◌, Bool, true, false, cond, ltb, List, [], ◌∷◌, length, map, Some, None, Result, Ok, Err, refl, ap, arith, slice_index}
-use Rattle.answers.proofs.Common.{Answer, entries_of, followed_by, FunctionBreakpoint, InstructionBreakpoint, list_of, next_after, Problem, SourceBreakpoint, Table, TooMuch, View, Wanted}
-use Rattle.replies.specs.declared.response.ResponseBody.TheVariants.{SetFunctionBreakpoints, SetInstructionBreakpoints}
+use Rattle.answers.proofs.Common.{[], Answer, ap, arith, Bool, cond, EachHasItsEntry, entries_in, entries_of, EntriesTellTheList, Err, false, followed_by, FunctionBreakpoint, InstructionBreakpoint, length, List, list_of, ltb, map, next_after, None, NumbersFollowEachOther, Ok, Problem, refl, Result, set_at_instructions, set_at_lines, set_by_body, SetFunctionBreakpoints, SetInstructionBreakpoints, Some, SourceBreakpoint, suc, Table, those_set, TooMuch, true, View, Wanted, zero, ℕ, ◌+◌, ◌<◌, ◌∷◌, ◌≡◌}
+use Rattle.std.proofs.Common.{slice_index}
 use Rattle.protocol.specs.declared.command.Command.TheVariants as command
-use Rattle.answers.specs.Laws.{EachHasItsEntry, EntriesTellTheList, NumbersFollowEachOther, entries_in, set_at_instructions, set_at_lines, set_by_body, those_set}
 use Rattle.answers.specs.SetBreakpoints as source
 use Rattle.answers.specs.SetFunctionBreakpoints as function
 use Rattle.answers.specs.SetInstructionBreakpoints as instruction

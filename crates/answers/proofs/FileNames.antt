@@ -1,10 +1,7 @@
 -- The last part of a path.
-use Rattle.answers.proofs.Common.{[], ap, append_assoc, arith, Bool, cond, drop, eqb, eqb-true, false, get_or, length, List, None, not, refl, reverse, suc, sym, take, take_while, true, ℕ, ◌++◌, ◌-◌, ◌<◌, ◌∙◌, ◌∷◌, ◌≡◌, ◌≢◌}
-use Rattle.std.proofs.lemmas.List.{get_or-reverse, length-reverse, reverse-append, reverse-reverse, take-append-drop}
-use Rattle.std.proofs.lemmas.Str.Pattern.{NoCharPasses-char, drop_at_char}
+use Rattle.answers.proofs.Common.{[], ap, append_assoc, arith, Bool, cond, drop, drop_at_char, eqb, eqb-true, false, file_name, get_or, get_or-reverse, length, length-reverse, List, NoCharPasses-char, None, not, refl, reverse, reverse-append, reverse-reverse, suc, sym, take, take-append-drop, take_while, true, ℕ, ◌++◌, ◌-◌, ◌<◌, ◌∙◌, ◌∷◌, ◌≡◌, ◌≢◌}
 use Rattle.std.specs.Str.Pattern.{RFindsChar, SplitsAroundMatch}
 use Rattle.std.proofs.lemmas.List.Sums.{take_while-cons}
-use Rattle.answers.specs.StackTrace.{file_name}
 
 abbrev no_slash : ℕ → Bool
 no_slash byte = not (eqb byte 47)

@@ -1,12 +1,9 @@
 -- The frames of the call stack, one after the other.
-use Rattle.std.proofs.Common.{◌≡◌, ℕ, zero, suc, ◌+◌, ◌-◌, ◌≤◌, List, [], ◌∷◌, ◌++◌, length, map, Option, Some, Ok, refl, sym, ap, ◌∙◌, arith, slice_index}
-use Rattle.answers.proofs.Common.{Debugged, Frame, length-map, number_for, number_in, Numbers, range_with_len, StackTraceArguments, Table, Target, unwrap_or, View, with_targets}
+use Rattle.answers.proofs.Common.{[], addresses, ap, arith, body_of, Debugged, end_in, first_in, frame, Frame, frame_at, frames_from, frames_given, indices, length, length-map, List, map, number_for, number_in, Numbers, Ok, Option, range_with_len, refl, Some, stack_trace, StackTrace, StackTraceArguments, suc, sym, Table, Target, unwrap_or, View, with_targets, zero, ℕ, ◌++◌, ◌+◌, ◌-◌, ◌∙◌, ◌∷◌, ◌≡◌, ◌≤◌}
+use Rattle.std.proofs.Common.{slice_index}
 use Rattle.std.proofs.lemmas.List.FromFn.{map-range_with_len_more}
 use Rattle.message_parts.specs.declared.stack_trace.StackFrame.{StackFrame}
-use Rattle.replies.specs.declared.response.ResponseBody.TheVariants.{StackTrace}
 use Rattle.answers.specs.Looking.{Look}
-use Rattle.answers.specs.StackTrace.{addresses, body_of, frame, frame_at, frames_given, indices, stack_trace}
-use Rattle.answers.specs.Steps.{end_in, first_in, frames_from}
 use Rattle.answers.proofs.Ranges.{length_range, range_part}
 
 abbrev frame_targets : ℕ → ℕ → List Target

@@ -1,6 +1,5 @@
 -- Entries and lists, one breakpoint further.
-use Rattle.std.proofs.Common.{◌≡◌, ℕ, suc, ◌+◌, ◌<◌, ◌≤◌, List, [], ◌∷◌, ◌++◌, length, drop, get_or, Result, Ok, Err, refl, sym, ap, ◌∙◌, arith, add-one, append_assoc, drop-cons}
-use Rattle.answers.proofs.Common.{entries_of, followed_by, list_of, next_after, Problem, Wanted}
+use Rattle.answers.proofs.Common.{[], add-one, ap, append_assoc, arith, drop, drop-cons, entries_of, Err, followed_by, get_or, length, List, list_of, next_after, Ok, Problem, refl, Result, suc, sym, Wanted, ℕ, ◌++◌, ◌+◌, ◌<◌, ◌∙◌, ◌∷◌, ◌≡◌, ◌≤◌}
 
 -- what is left begins with the item that is read
 pub left_from : {A : Type 0} (asked : List A) (i : ℕ) (item : A) → i < length asked → item ≡ get_or asked i item

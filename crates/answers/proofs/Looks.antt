@@ -1,13 +1,9 @@
 -- What looks into memory tell.
-use Rattle.std.proofs.Common.{◌≡◌, ℕ, ℤ, zero, suc, pos, ◌+ℤ◌, ◌-◌, ◌*◌, ◌<◌, ◌≤◌, min, Bool, true, false, cond, ltb, List, [], ◌∷◌, length, take, drop, Option, Some, None, Ok, Err, refl, sym, ap, subst, ◌∙◌, arith, length-drop}
-use Rattle.std.specs.Prelude.{slice_get, IsTrue}
-use Rattle.answers.proofs.Common.{entries_from, entry, first_address, ints, offset_by, OutsideMemory, ReadMemoryArguments, TooMuch, word_of}
+use Rattle.answers.proofs.Common.{[], ap, arith, Bool, bytes_from, BytesAreRead, can_begin, cond, drop, entries_from, EntriesHaveTheirPlaces, entry, Err, false, first_address, ints, IsRead, IsTrue, length, List, ltb, min, None, offset_by, Ok, Option, OutsideMemory, pos, read, ReadMemory as Bytes, ReadMemoryArguments, refl, slice_get, Some, start_at, start_by, subst, suc, sym, take, TextsAreDisassemblies, TooMuch, true, word_of, zero, ℕ, ℤ, ◌*◌, ◌+ℤ◌, ◌-◌, ◌<◌, ◌∙◌, ◌∷◌, ◌≡◌, ◌≤◌}
+use Rattle.std.proofs.Common.{length-drop}
 use Rattle.message_parts.specs.declared.read_memory.ReadMemory.{ReadMemory}
-use Rattle.replies.specs.declared.response.ResponseBody.TheVariants.{ReadMemory as Bytes}
 use Rattle.rv32i.specs.Texts.{IsTextOf}
 use Rattle.rv32i.proofs.OneText.{one_text}
-use Rattle.answers.specs.Laws.{BytesAreRead, EntriesHaveTheirPlaces, IsRead, TextsAreDisassemblies}
-use Rattle.answers.specs.ReadMemory.{bytes_from, can_begin, read, start_at, start_by}
 use Rattle.answers.specs.Texts.{text_at, text_at-is}
 use Rattle.answers.proofs.MemoryBytes.{begins_inside, byte_there}
 use Rattle.answers.proofs.Proper.{offset_small}

@@ -1,8 +1,6 @@
 -- Bytes of memory that are read one by one.
-use Rattle.std.proofs.Common.{◌≡◌, ℕ, zero, suc, ◌+◌, ◌-◌, ◌<◌, ◌≤◌, min, Bool, true, false, eqb, ltb, List, [], ◌∷◌, ◌++◌, take, drop, Some, None, IsTrue, refl, sym, ap, ◌∙◌, arith, add-one}
-use Rattle.std.specs.Prelude.{is_some, slice_get}
-use Rattle.answers.proofs.Common.{bytes_from, can_begin, nat_tests}
-use Rattle.image.specs.Memory.{byte_at, bytes_at, first_address}
+use Rattle.answers.proofs.Common.{[], add-one, ap, arith, Bool, byte_at, bytes_at, bytes_from, can_begin, drop, eqb, false, first_address, is_some, List, ltb, min, nat_tests, None, refl, slice_get, Some, suc, sym, take, true, zero, ℕ, ◌++◌, ◌+◌, ◌-◌, ◌<◌, ◌∙◌, ◌∷◌, ◌≡◌, ◌≤◌}
+use Rattle.std.proofs.Common.{IsTrue}
 
 -- ---- of a list
 
@@ -66,7 +64,7 @@ no_more memory count address index bytes begins below room none so =
     so ∙ take_past (drop (address - first_address) memory) index (min count (4294967296 - address)) (omega (arith, below, room))
     (byte_there memory address index low ∙ none)
 
--- so many are read
+-- this many bytes are read
 pub all_read : (memory : List ℕ) (count address index : ℕ) (bytes : List ℕ) → index ≡ min count (4294967296 - address)
     → bytes ≡ bytes_at memory address index → bytes ≡ bytes_from memory count address
 all_read memory count address index bytes e so = so ∙ ap (bytes_at memory address) e

@@ -1,6 +1,5 @@
 -- Entries of a disassembly that are made one by one.
-use Rattle.answers.proofs.Common.{[], ap, append_assoc, arith, entries_from, entry, ints, List, pos, suc, sym, zero, ℕ, ℤ, ◌*◌, ◌++◌, ◌+ℤ◌, ◌+◌, ◌-◌, ◌<◌, ◌∙◌, ◌∷◌, ◌≡◌, ◌≤◌}
-use Rattle.std.proofs.lemmas.List.{append-nil}
+use Rattle.answers.proofs.Common.{[], ap, append-nil, append_assoc, arith, entries_from, entry, ints, List, pos, suc, sym, zero, ℕ, ℤ, ◌*◌, ◌++◌, ◌+ℤ◌, ◌+◌, ◌-◌, ◌<◌, ◌∙◌, ◌∷◌, ◌≡◌, ◌≤◌}
 use Rattle.message_parts.specs.declared.disassemble.Instruction.{Instruction}
 
 further : (memory : List ℕ) (place : ℤ) (count : ℕ) → 0 < count

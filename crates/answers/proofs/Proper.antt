@@ -1,13 +1,9 @@
 -- Answers can be sent: their numbers are in their ranges.
-use Rattle.answers.proofs.Common.{[], All, and_parts, Answer, ap, arith, Bool, cond, Conditions, conditions_of, entries_of, Err, false, find, first_address, followed_by, FunctionBreakpoint, IfOk, InstructionBreakpoint, leb, length, line_in_editor, line_in_image, List, list_all, list_of, lt-ltb, ltb, ltb-true, negsuc, next_after, None, Ok, Option, option_map, pos, Problem, refl, Result, Some, SourceBreakpoint, subst, TooMuch, trimmed, true, View, word_of, ℕ, ℤ, ◌%◌, ◌&&◌, ◌+ℤ◌, ◌+◌, ◌<◌, ◌==◌, ◌∷◌, ◌≡◌, ◌≤◌}
-use Rattle.std.proofs.lemmas.List.Elements.{All-head, All-tail, All-weaker}
-use Rattle.image.specs.Lines.{Row, Table, bind, label_address, line_in, start_of}
+use Rattle.answers.proofs.Common.{[], address_in, address_of, All, All-head, All-tail, All-weaker, and_parts, Answer, AnswersAreProper, ap, arith, bind, Bool, cond, Conditions, conditions_of, entries_of, Err, false, find, first_address, followed_by, FunctionBreakpoint, IfOk, InstructionBreakpoint, IsNarrow, label_address, leb, length, line_in, line_in_editor, line_in_image, List, list_all, list_of, lt-ltb, ltb, ltb-true, negsuc, next_after, None, NumbersFit, offset_by, Ok, Option, option_map, pos, Problem, refl, Result, Row, Some, SourceBreakpoint, start_of, subst, Table, TooMuch, trimmed, true, View, word_of, ℕ, ℤ, ◌%◌, ◌&&◌, ◌+ℤ◌, ◌+◌, ◌<◌, ◌==◌, ◌∷◌, ◌≡◌, ◌≤◌}
 use Rattle.protocol.specs.declared.command.Command.TheVariants as command
 use Rattle.message_parts.specs.SetBreakpoints.{source_breakpoint}
 use Rattle.message_parts.specs.SetInstructionBreakpoints.{instruction_breakpoint}
 use Rattle.replies.specs.declared.response.ResponseBody.{ResponseBody}
-use Rattle.answers.specs.Laws.{AnswersAreProper, IsNarrow, NumbersFit}
-use Rattle.numerals.specs.MemoryReferences.{address_in, address_of, offset_by}
 use Rattle.answers.specs.SetBreakpoints as source
 use Rattle.answers.specs.SetFunctionBreakpoints as function
 use Rattle.answers.specs.SetInstructionBreakpoints as instruction

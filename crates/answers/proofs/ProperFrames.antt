@@ -1,17 +1,10 @@
 -- Answers of frames and scopes can be sent: their numbers are in their ranges.
-use Rattle.answers.proofs.Common.{[], All-cons, All-head, All-tail, arith, Bool, cond, Debugged, Done, drop, eqb, Err, false, Frame, IfOk, IsOutcomeOf, length, line_in_editor, List, list_all, lt-ltb, ltb, map, None, Ok, Option, option_map, part, range_with_len, refl, Refusal, Registers, Result, Some, Stack, StackTraceArguments, subst, suc, take, Target, true, unwrap_or, View, zero, ℕ, ◌&&◌, ◌+◌, ◌-◌, ◌<◌, ◌∷◌, ◌≡◌, ◌≤◌}
-use Rattle.std.specs.Prelude.{All, codes, find, slice_index}
-use Rattle.std.proofs.lemmas.List.{length-drop, length-map, length-take}
-use Rattle.image.specs.Lines.{Row, Table, covers, line_in, line_of}
+use Rattle.answers.proofs.Common.{[], addresses, All, All-cons, All-head, All-tail, AreIssued, arith, Bool, codes, column_by, cond, covers, Debugged, Done, drop, eqb, Err, false, find, Frame, frame_at, frame_of, frames_given, HoldsWords, IfOk, indices, IsNarrow, IsOutcomeOf, length, length-drop, length-map, length-take, line_by, line_in, line_in_editor, line_of, List, list_all, lt-ltb, ltb, map, name_at, None, number_for, number_from, number_in, Numbers, Ok, Option, option_map, part, range_with_len, refl, Refusal, Registers, Result, Row, slice_index, Some, source_by, Stack, stack_trace, StackTraceArguments, subst, suc, Table, take, Target, true, unwrap_or, View, with_all, with_targets, zero, ℕ, ◌&&◌, ◌+◌, ◌-◌, ◌<◌, ◌∷◌, ◌≡◌, ◌≤◌}
 use Rattle.message_parts.specs.StackTrace.{stack_frame}
 use Rattle.protocol.specs.declared.scopes.ScopesArguments.{ScopesArguments}
-use Rattle.variables.specs.Numbers.{Numbers, number_from, number_in, with_all, with_targets}
 use Rattle.variables.specs.References.{is_same}
 use Rattle.variables.proofs.Targets.{with_all-short}
-use Rattle.answers.specs.Laws.{AreIssued, HoldsWords, IsNarrow}
 use Rattle.answers.specs.Scopes.{body_by, scopes, scopes_of}
-use Rattle.answers.specs.StackTrace.{addresses, column_by, frame_at, frames_given, indices, line_by, name_at, source_by, stack_trace}
-use Rattle.answers.specs.Targets.{frame_of, number_for}
 use Rattle.answers.proofs.ProperLooks.{both}
 use Rattle.answers.proofs.Ranges.{length_range}
 use Rattle.answers.proofs.Words.{small_at}

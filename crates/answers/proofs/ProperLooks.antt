@@ -1,14 +1,10 @@
 -- Answers of what looks into memory can be sent: their numbers are in their ranges.
-use Rattle.answers.proofs.Common.{[], address_of, are_bytes, arith, Bool, cond, Done, drop, eqb, Err, false, IfOk, IsOutcomeOf, length, List, list_all, lt-ltb, ltb, ltb-true, min, nat_tests, negsuc, None, offset_by, Ok, Option, OutsideMemory, pos, ReadMemoryArguments, refl, Refusal, Result, result_ok, Some, subst, suc, take, TooMuch, true, word_of, zero, ℕ, ℤ, ◌&&◌, ◌+ℤ◌, ◌-◌, ◌<◌, ◌∷◌, ◌≡◌, ◌≤◌}
-use Rattle.std.specs.Prelude.{codes}
-use Rattle.image.specs.Memory.{bytes_at, fault_at, first_address, little_endian, unless_fault}
+use Rattle.answers.proofs.Common.{[], address_of, are_bytes, arith, Bool, bytes_at, bytes_from, BytesAreProper, can_begin, codes, cond, disassembled, Done, drop, entries_from, EntriesAreProper, entry, entry_by, eqb, Err, false, fault_at, first_address, IfOk, IsOutcomeOf, length, List, list_all, little_endian, lt-ltb, ltb, ltb-true, min, nat_tests, negsuc, None, offset_by, Ok, Option, OutsideMemory, pos, read, ReadMemoryArguments, refl, Refusal, Result, result_ok, Some, start_at, start_by, subst, suc, take, TooMuch, true, unless_fault, word_in, word_of, wrapped, zero, ℕ, ℤ, ◌&&◌, ◌+ℤ◌, ◌-◌, ◌<◌, ◌∷◌, ◌≡◌, ◌≤◌}
 use Rattle.image.specs.declared.fault.MemFault.{MemFault}
 use Rattle.message_parts.specs.Disassemble.{instruction}
 use Rattle.message_parts.specs.Forms.{is_in_if, is_word}
 use Rattle.message_parts.specs.ReadMemory.{unless_0}
-use Rattle.answers.specs.Disassemble.{disassembled, entries_from, entry, entry_by, start_by as places_by, word_in, wrapped}
-use Rattle.answers.specs.Laws.{BytesAreProper, EntriesAreProper}
-use Rattle.answers.specs.ReadMemory.{bytes_from, can_begin, read, start_at, start_by}
+use Rattle.answers.specs.Disassemble.{start_by as places_by}
 use Rattle.answers.proofs.Proper.{offset_small}
 
 pub first_of : (x y : Bool) → (x && y) ≡ true → x ≡ true

@@ -1,8 +1,5 @@
 -- Answers of variables, values and writes can be sent: their numbers are in their ranges.
-use Rattle.answers.proofs.Common.{[], are_bytes, arith, Bool, bytes_at, can_begin, cond, Debugged, Done, drop, eqb, Err, expression_of, false, fault_at, first_address, Frame, Hart, IfOk, IsOutcomeOf, leb, length, List, list_all, little_endian, lt-ltb, ltb, map, min, nat_tests, None, Numbers, numeral, NumeralError, offset_by, Ok, Option, OutsideMemory, part, prefixed, range_with_len, refl, Refusal, Registers, Result, result_ok, Some, Stack, start_at, subst, suc, take, take_while, Target, TooMuch, Tree, true, zero, ℕ, ◌*◌, ◌++◌, ◌+◌, ◌-◌, ◌<◌, ◌∷◌, ◌≡◌, ◌≤◌}
-use Rattle.std.specs.Prelude.{All, codes, slice_index}
-use Rattle.std.proofs.lemmas.List.{length-drop, length-take}
-use Rattle.std.proofs.lemmas.List.Elements.{All-set}
+use Rattle.answers.proofs.Common.{[], All, All-set, are_bytes, arith, Bool, bytes_at, can_begin, codes, cond, counter, Debugged, Done, drop, eqb, Err, expression_of, false, fault_at, first_address, Frame, frame_refusal, Hart, HoldsWords, IfOk, IsOutcomeOf, leb, length, length-drop, length-take, List, list_all, little_endian, lt-ltb, ltb, map, min, name_answer, nat_tests, None, Numbers, numbers as register_numbers, numeral, NumeralError, offset_by, Ok, Option, OutsideMemory, part, prefixed, range_with_len, refl, Refusal, register, Registers, Result, result_ok, set_in, setting_of, SettingsAreProper, SettingsKeepWords, slice_index, Some, Stack, start_at, subst, suc, take, take_while, Target, target_of, TooMuch, Tree, true, with_register, word_by, word_of, WritingsAreProper, WritingsFit, zero, ℕ, ◌*◌, ◌++◌, ◌+◌, ◌-◌, ◌<◌, ◌∷◌, ◌≡◌, ◌≤◌}
 use Rattle.expressions.specs.Values.{value_of as value_in}
 use Rattle.expressions.specs.declared.error.ExprFault.{ExprFault}
 use Rattle.protocol.specs.declared.evaluate.EvaluateArguments.{EvaluateArguments}
@@ -13,14 +10,10 @@ use Rattle.protocol.specs.declared.write_memory.WriteMemoryArguments.{WriteMemor
 use Rattle.message_parts.specs.Variables.{variable}
 use Rattle.message_parts.specs.declared.variables.Variable.{Variable}
 use Rattle.rv32i.specs.Machine.{difference, sum}
-use Rattle.variables.specs.Registers.{counter, name_answer, numbers as register_numbers, register, registers}
+use Rattle.variables.specs.Registers.{registers}
 use Rattle.variables.specs.Stack.{has_word, stack_words, word}
 use Rattle.variables.specs.Values.{if_signed, negated, value_of}
 use Rattle.answers.specs.Evaluate.{evaluate, if_valued, unless_refused, valued}
-use Rattle.answers.specs.Laws.{HoldsWords, SettingsAreProper, SettingsKeepWords, WritingsAreProper, WritingsFit}
-use Rattle.numerals.specs.Words.{word_by, word_of}
-use Rattle.answers.specs.SetVariable.{set_in, setting_of, with_register}
-use Rattle.answers.specs.Targets.{frame_refusal, target_of}
 use Rattle.answers.specs.Variables.{asked_of, body_by, of_kind, variables, variables_in}
 use Rattle.answers.specs.WriteMemory.{fitting, start_by, writing_of, written, written_at}
 use Rattle.answers.proofs.MemoryBytes.{begins_inside}
@@ -262,7 +255,7 @@ written_in memory partial count address few = by (eqb (fitting memory count addr
       one (fitting memory count address) (omega (arith, few, short))
   by false false = tt
 
--- where writing begins, and that there are not too many bytes
+-- where writing begins, and the bytes are not too many
 abbrev CanWrite : List ℕ → ℕ → Result ℕ Refusal → Type 0
 CanWrite memory count found = IfOk found (λ address. (count ≤ 65536) × (can_begin memory count address ≡ true))
 

@@ -1,6 +1,5 @@
 -- Part of a list, by the indices of its first element and of the one after its last.
-use Rattle.answers.proofs.Common.{[], ap, arith, Bool, cond, drop, end_in, eqb, false, first_in, length, List, min, None, Option, part, range_with_len, refl, Some, suc, sym, take, true, zero, ℕ, ◌+◌, ◌-◌, ◌∙◌, ◌∷◌, ◌≡◌, ◌≤◌}
-use Rattle.std.proofs.lemmas.List.{length-drop, take_all}
+use Rattle.answers.proofs.Common.{[], ap, arith, Bool, cond, drop, end_in, eqb, false, first_in, length, length-drop, List, min, None, Option, part, range_with_len, refl, Some, suc, sym, take, take_all, true, zero, ℕ, ◌+◌, ◌-◌, ◌∙◌, ◌∷◌, ◌≡◌, ◌≤◌}
 
 drop_none : {A : Type 0} (n : ℕ) → drop {A = A} n [] ≡ []
 drop_none zero = refl
@@ -38,7 +37,7 @@ to_end : {A : Type 0} (start : ℕ) (l : List A) → drop (first_in start (lengt
 to_end {A = A} start l =
     ap (λ (m : List A). drop (first_in start (length l)) m) (take_all (length l) l (omega arith)) ∙ drop_min {A = A} start l
 
--- so many elements from an index on
+-- this many elements from an index on
 some : {A : Type 0} (start count : ℕ) (l : List A)
     → drop (first_in start (length l)) (take (min (length l) (first_in start (length l) + count)) l) ≡ take count (drop start l)
 some {A = A} start count l =

@@ -1,14 +1,10 @@
 -- Which expression a text is, as a function and by the rules.
-use Rattle.answers.proofs.Common.{[], ap, arith, Bool, cond, Err, false, leb, length, List, None, Option, refl, Some, subst, Token, true, ℕ, ◌<◌, ◌∙◌, ◌≡◌, ◌≤◌}
-use Rattle.std.proofs.lemmas.Bool.{leb-true, le-leb}
+use Rattle.answers.proofs.Common.{[], ap, arith, Bool, cond, Err, ExpressionsAreRead, false, if_shallow, IsExpression, IsTreeOf, le-leb, leb, leb-true, length, List, nesting, None, Option, Parses, refl, Some, subst, Token, tokens_of as tokens_in, Tree, tree_among, true, ℕ, ◌<◌, ◌∙◌, ◌≡◌, ◌≤◌}
 use Rattle.expressions.specs.Scanning.{lexemes}
-use Rattle.expressions.specs.Texts.{IsTreeOf, Parses}
-use Rattle.expressions.specs.Trees.{Tree, nesting, tokens_of as tokens_in}
 use Rattle.expressions.specs.declared.error.ExprError.TheVariants.{Syntax, TooDeep, TooLong}
 use Rattle.expressions.proofs.Deciding.{is_tree, spelled_by_tree, unique}
 use Rattle.expressions.proofs.Grouping.{tree_found}
-use Rattle.answers.specs.Expressions.{IsExpression, expression_of, if_shallow, tokens_of, tree_among}
-use Rattle.answers.specs.Laws.{ExpressionsAreRead}
+use Rattle.answers.specs.Expressions.{expression_of, tokens_of}
 use Rattle.answers.proofs.Tokens.{tokens_found, tokens_spelled}
 
 -- ---- within no limits

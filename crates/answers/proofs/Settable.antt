@@ -1,13 +1,7 @@
 -- A list that an answer sets can be set: it is short enough, and each breakpoint stops at some hit.
-use Rattle.std.proofs.Common.{◌≡◌, ℕ, ◌≤◌, Bool, true, false, ◌||◌, cond, ltb, leb, List, [], ◌∷◌, length, map, Option, Some, None, Result, Ok, Err, IfOk, IfSome, option_map, refl, sym, ap, subst, arith}
-use Rattle.answers.proofs.Common.{All, Answer, bind, entries_of, followed_by, FunctionBreakpoint, InstructionBreakpoint, label_address, length-map, line_in_image, list_of, next_after, numeral, NumeralError, Problem, SourceBreakpoint, Table, TooMuch, Tree, View}
-use Rattle.replies.specs.declared.response.ResponseBody.TheVariants.{SetFunctionBreakpoints, SetInstructionBreakpoints}
-use Rattle.std.proofs.lemmas.Bool.{leb-true, ltb-false}
+use Rattle.answers.proofs.Common.{[], All, All-cons, All-head, All-nil, All-tail, Answer, ap, arith, bind, Bool, both, CanBeSet, cond, condition_of, Conditions, conditions_of, entries_of, Err, false, followed_by, FunctionBreakpoint, hit_of, if_positive, IfOk, IfSome, InstructionBreakpoint, label_address, leb, leb-true, length, length-map, line_in_image, List, list_any, list_of, ltb, ltb-false, map, next_after, None, numeral, NumeralError, Ok, Option, option_map, Problem, refl, Result, said, SetFunctionBreakpoints, SetInstructionBreakpoints, Some, SourceBreakpoint, subst, sym, Table, TooMuch, Tree, trimmed, true, View, Wanted, wanted_by, ℕ, ◌||◌, ◌∷◌, ◌≡◌, ◌≤◌}
 use Rattle.std.specs.declared.alloc.AllocError.{AllocError}
-use Rattle.std.specs.List.{list_any}
 use Rattle.answers.specs.declared.problem.Problem.TheVariants.{BadAddress, BadHitCondition}
-use Rattle.std.proofs.lemmas.List.Elements.{All-cons, All-nil, All-head, All-tail}
-use Rattle.breakpoints.specs.Stops.{CanBeSet, Wanted, wanted_by}
 use Rattle.breakpoints.specs.declared.breakpoint.BreakSpec.{BreakSpec}
 use Rattle.protocol.specs.declared.set_breakpoints.SetBreakpointsArguments.{SetBreakpointsArguments}
 use Rattle.protocol.specs.declared.set_function_breakpoints.SetFunctionBreakpointsArguments as of_functions
@@ -16,8 +10,6 @@ use Rattle.answers.specs.Answers.{answer_by}
 use Rattle.answers.specs.SetBreakpoints as source
 use Rattle.answers.specs.SetFunctionBreakpoints as function
 use Rattle.answers.specs.SetInstructionBreakpoints as instruction
-use Rattle.answers.specs.Spaces.{said, trimmed}
-use Rattle.answers.specs.Conditions.{Conditions, both, condition_of, hit_of, if_positive, conditions_of}
 use Rattle.answers.specs.declared.breaks.BreakAnswer.{BreakAnswer}
 
 -- ---- results

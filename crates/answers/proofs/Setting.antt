@@ -1,11 +1,7 @@
 -- A register that is set.
-use Rattle.answers.proofs.Common.{ap, Bool, cond, eqb, Err, false, Hart, List, None, Ok, Option, refl, Refusal, Result, setting_of, Some, suc, sym, true, with_register, zero, ℕ, ◌∙◌, ◌≡◌}
-use Rattle.std.specs.Prelude.{bytes_eq, codes}
-use Rattle.protocol.specs.declared.refusal.Refusal.TheVariants.{NotWritable}
-use Rattle.replies.specs.declared.response.ResponseBody.TheVariants.{SetVariable}
+use Rattle.answers.proofs.Common.{ap, Bool, bytes_eq, codes, cond, eqb, Err, false, Hart, List, name_answer, None, NotWritable, Ok, Option, refl, Refusal, Result, setting_of, SetVariable, Some, suc, sym, true, unless_zero, value_answer, with_register, with_value, zero, ℕ, ◌∙◌, ◌≡◌}
 use Rattle.stepping.proofs.Determined.{harts_equal}
 use Rattle.rv32i.specs.Names.{number_named}
-use Rattle.variables.specs.Registers.{name_answer, unless_zero, value_answer, with_value}
 
 -- no name is that of x0
 not_zero : (found : Option ℕ) → unless_zero found ≡ Ok 0 → ⊥

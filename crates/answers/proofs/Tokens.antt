@@ -1,7 +1,6 @@
 -- The token that bytes spell is found among those that they may spell.
-use Rattle.std.proofs.Common.{◌≡◌, ℕ, ◌<◌, zero, suc, Bool, true, false, ◌==◌, ◌&&◌, ◌||◌, ltb, cond, ◌≤◌, Result, Ok, Err, List, [], ◌∷◌, Option, Some, None, refl, sym, ap, ◌∙◌, subst, codes, arith, ◌⊎◌, inl, inr}
-use Rattle.answers.proofs.Common.{And, AndThen, Equal, find, Greater, GreaterEqual, Infix, Less, LessEqual, magnitude, Minus, nat_tests, NotEqual, NumeralError, Or, OrElse, Plus, Round, ShiftLeft, ShiftRight, Spells, Square, Times, Token, Xor, ⊤}
-use Rattle.std.proofs.lemmas.Bool.{and_from, and_parts, or_left, or_right, eqb-true, ltb-true, lt-ltb, both_ways}
+use Rattle.answers.proofs.Common.{[], And, and_from, and_others, and_parts, AndThen, ap, arith, Bool, both_ways, cond, eqb-true, Equal, Err, false, find, Greater, GreaterEqual, Infix, inl, inr, is_number, Less, LessEqual, List, lt-ltb, ltb, ltb-true, magnitude, Minus, names, nat_tests, None, NotEqual, NumeralError, Ok, Option, Or, or_left, or_right, OrElse, Plus, refl, registers_below, Result, Round, ShiftLeft, ShiftRight, signs, Some, Spells, spells, Square, subst, suc, sym, Times, Token, true, with_number, Xor, zero, ℕ, ⊤, ◌&&◌, ◌<◌, ◌==◌, ◌||◌, ◌∙◌, ◌∷◌, ◌≡◌, ◌≤◌, ◌⊎◌}
+use Rattle.std.proofs.Common.{codes}
 use Rattle.std.proofs.lemmas.Slice.Eq.{bytes_eq-Decides}
 use Rattle.std.specs.Str.{bytes_eq}
 use Rattle.rv32i.specs.Names.{Names, name_of, numbered_name_of}
@@ -9,7 +8,7 @@ use Rattle.expressions.specs.Scanning.{Spelled}
 use Rattle.expressions.specs.declared.token.Token.TheVariants as t
 use Rattle.expressions.proofs.Lexemes.{either}
 use Rattle.expressions.proofs.Words.{one_token}
-use Rattle.answers.specs.Expressions.{is_number, names, spells, signs, registers_below, with_number, token_of, and_others, tokens_of}
+use Rattle.answers.specs.Expressions.{token_of, tokens_of}
 
 -- ---- tests
 
@@ -59,12 +58,7 @@ names_it bytes r h =
 spelled : (bytes : List ℕ) (token : Token) → spells bytes token ≡ true → Spells token bytes
 spelled bytes (t.Number n) h = number_is (magnitude bytes) n h
 spelled bytes (t.Register r) h = is_named bytes r h
-spelled bytes t.Pc h = same_bytes bytes _ h
-spelled bytes (t.Infix operator) h = same_bytes bytes _ h
-spelled bytes t.Tilde h = same_bytes bytes _ h
-spelled bytes t.Bang h = same_bytes bytes _ h
-spelled bytes (t.Open bracket) h = same_bytes bytes _ h
-spelled bytes (t.Close bracket) h = same_bytes bytes _ h
+spelled bytes _ h = same_bytes bytes _ h
 
 spells_number : (found : Result ℕ NumeralError) (n : ℕ) → found ≡ Ok n → is_number found n ≡ true
 spells_number found n e = subst (λ (x : Result ℕ NumeralError). is_number x n ≡ true) (sym e) (same n) where
@@ -74,16 +68,10 @@ spells_number found n e = subst (λ (x : Result ℕ NumeralError). is_number x n
 spells_it : (bytes : List ℕ) (token : Token) → Spells token bytes → spells bytes token ≡ true
 spells_it bytes (t.Number n) h = spells_number (magnitude bytes) n h
 spells_it bytes (t.Register r) h = names_it bytes r h
-spells_it bytes t.Pc h = tested bytes _ h
-spells_it bytes (t.Infix operator) h = tested bytes _ h
-spells_it bytes t.Tilde h = tested bytes _ h
-spells_it bytes t.Bang h = tested bytes _ h
-spells_it bytes (t.Open bracket) h = tested bytes _ h
-spells_it bytes (t.Close bracket) h = tested bytes _ h
+spells_it bytes _ h = tested bytes _ h
 
 -- ---- what is found
 
--- what is found passes
 found_passes : (p : Token → Bool) (tokens : List Token) (token : Token) → find p tokens ≡ Some token → p token ≡ true
 found_passes p [] token e = cc
 found_passes p (other ∷ tokens) token e =

@@ -1,6 +1,5 @@
 -- Texts that have no space at an end.
-use Rattle.answers.proofs.Common.{[], ap, Bool, cond, eqb-true, false, List, refl, reverse, reverse-append, reverse-reverse, sym, true, ℕ, ◌++◌, ◌==◌, ◌∙◌, ◌∷◌, ◌≡◌, ◌≢◌}
-use Rattle.answers.specs.Spaces.{without_leading_spaces, without_trailing_spaces}
+use Rattle.answers.proofs.Common.{[], ap, Bool, cond, eqb-true, false, List, refl, reverse, reverse-append, reverse-reverse, sym, true, without_leading_spaces, without_trailing_spaces, ℕ, ◌++◌, ◌==◌, ◌∙◌, ◌∷◌, ◌≡◌, ◌≢◌}
 
 pub none_leads : (text : List ℕ) → ((rest : List ℕ) → text ≢ 32 ∷ rest) → without_leading_spaces text ≡ text
 none_leads [] none = refl

@@ -1,16 +1,10 @@
 -- The value of an expression is a word.
-use Rattle.std.proofs.Common.{div-le_self, ◌≡◌, ℕ, zero, suc, ◌+◌, ◌-◌, ◌*◌, ◌%◌, ◌^◌, ◌<◌, ◌≤◌, Bool, true, false, not, cond, ◌&&◌, eqb, ltb, leb, List, [], ◌∷◌, ◌++◌, length, drop, Option, Some, None, Ok, Err, IfOk, refl, ap, arith}
-use Rattle.std.specs.Prelude.{All, ⊤, bit_and, slice_index}
-use Rattle.answers.proofs.Common.{All-head, All-tail, And, AndThen, are_bytes, Equal, expression_of, Greater, GreaterEqual, Hart, Infix, leb-true, Less, LessEqual, list_all, lt-ltb, Minus, NotEqual, Or, OrElse, Plus, Round, ShiftLeft, ShiftRight, Square, Times, Token, Xor}
+use Rattle.answers.proofs.Common.{[], All, All-head, All-tail, And, AndThen, ap, are_bytes, arith, Binary, bit_and, Bool, bytes_at, cond, div-le_self, drop, Enclosed, eqb, Equal, Err, expression_of, false, first_address, Greater, GreaterEqual, Hart, has_bytes, IfOk, Infix, IsTokens, leb, leb-true, length, Less, LessEqual, List, list_all, little_endian, lt-ltb, ltb, magnitude, magnitude_by, Minus, None, not, NotEqual, Number, numeral, Ok, Option, Or, OrElse, Pc, Plus, prefixed, refl, Register, Round, ShiftLeft, ShiftRight, slice_index, Some, Spells, Square, suc, Times, Token, tokens_of, Tree, true, Unary, within, Xor, zero, ℕ, ⊤, ◌%◌, ◌&&◌, ◌*◌, ◌++◌, ◌+◌, ◌-◌, ◌<◌, ◌^◌, ◌∷◌, ◌≡◌, ◌≤◌}
 use Rattle.std.specs.Str.Parse.{digits_value}
 use Rattle.std.specs.Char.{is_digit}
 use Rattle.std.proofs.lemmas.Nat.{and_le_l, or_lt, xor_lt}
-use Rattle.image.specs.Memory.{bytes_at, first_address, has_bytes, little_endian}
-use Rattle.numerals.specs.Numerals.{magnitude, magnitude_by, numeral, prefixed, within}
 use Rattle.numerals.specs.declared.NumeralError.TheVariants.{Malformed, TooLarge}
 use Rattle.rv32i.specs.Machine.{flag, is_less_than, places}
-use Rattle.expressions.specs.Tokens.{IsTokens, Spells}
-use Rattle.expressions.specs.Trees.{Tree, Number, Register, Pc, Unary, Binary, Enclosed, tokens_of}
 use Rattle.expressions.specs.Values.{Valued, before, between, decides, enclosed, is_true, value_of, with_value}
 use Rattle.expressions.specs.declared.error.ExprFault.TheVariants.{Outside}
 use Rattle.expressions.specs.declared.token.Bracket.{Bracket}
@@ -50,13 +44,7 @@ magnitude_small bytes n e = by (prefixed bytes) e where
 
 abbrev IsWordToken : Token → Type 0
 IsWordToken (t.Number n) = n < 4294967296
-IsWordToken (t.Register r) = ⊤
-IsWordToken t.Pc = ⊤
-IsWordToken (t.Infix operator) = ⊤
-IsWordToken t.Tilde = ⊤
-IsWordToken t.Bang = ⊤
-IsWordToken (t.Open bracket) = ⊤
-IsWordToken (t.Close bracket) = ⊤
+IsWordToken _ = ⊤
 
 abbrev AreWords : List Token → Type 0
 AreWords [] = ⊤
@@ -64,13 +52,7 @@ AreWords (token ∷ tokens) = IsWordToken token × AreWords tokens
 
 spelled_word : (token : Token) (bytes : List ℕ) → Spells token bytes → IsWordToken token
 spelled_word (t.Number n) bytes h = magnitude_small bytes n h
-spelled_word (t.Register r) bytes h = tt
-spelled_word t.Pc bytes h = tt
-spelled_word (t.Infix operator) bytes h = tt
-spelled_word t.Tilde bytes h = tt
-spelled_word t.Bang bytes h = tt
-spelled_word (t.Open bracket) bytes h = tt
-spelled_word (t.Close bracket) bytes h = tt
+spelled_word _ bytes h = tt
 
 spelled_words : (tokens : List Token) (text : List ℕ) → IsTokens tokens text → AreWords tokens
 spelled_words [] text h = tt

@@ -2,7 +2,7 @@
 --
 -- An instruction has 4 bytes. The k-th of those that are asked for, from 0, is at the place that the reference, the
 -- offset and 4 for each instruction before it come to, which may be any whole number. Where that is the address of a
--- word of memory, the entry has the word and its disassembly; else it says that there is none, at the place modulo
+-- word of memory, the entry has the word and its disassembly; else it says that it has none, at the place modulo
 -- 2^32. No more than 4,096 are asked for.
 use Rattle.std.specs.Prelude.{◌≡◌, ℕ, ℤ, zero, suc, pos, neg_ℤ, ◌+ℤ◌, ◌*ℤ◌, ◌^◌, nat_lt, if◌then◌else◌, List, [], ◌∷◌}
 use Rattle.std.specs.Prelude.{Option, Some, None, Result, Ok, Err, refl, unsigned_abs}
@@ -55,7 +55,7 @@ entry_by address (Some word) = Valid address (text_at word address) word
 abbrev pub entry : List ℕ → ℤ → Instruction
 entry memory place = entry_by (wrapped place) (word_in memory (address_of place))
 
--- so many entries from a place on
+-- this many entries from a place on
 abbrev pub entries_from : List ℕ → ℤ → ℕ → List Instruction
 entries_from memory place zero = []
 entries_from memory place (suc count) = entry memory place ∷ entries_from memory (place +ℤ pos 4) count

@@ -3,7 +3,7 @@
 -- `expressions` says by rules when a text is read by a tree (`Texts.IsTreeOf`). As answers are functions of what was
 -- asked, the same is said here as a function: the text is divided into words and signs, each of these is the token that
 -- it spells, and the tokens lead to their tree. The law `Laws.ExpressionsAreRead` says that this is the tree by the
--- rules, where there is one within the limits, and that there is none else.
+-- rules, if one exists within the limits, and that otherwise no tree does.
 use Rattle.std.specs.Prelude.{ℕ, zero, suc, Bool, false, ◌==◌, ◌≤◌, nat_le, nat_lt, ◌&&◌, ◌||◌}
 use Rattle.std.specs.Prelude.{if◌then◌else◌, List, [], ◌∷◌, length, find, Option, Some, None, Result, Ok, Err, bytes_eq}
 use Rattle.std.specs.Prelude.{codes}

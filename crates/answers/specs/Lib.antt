@@ -46,5 +46,5 @@ pub mod Spaces
 pub mod Expressions
 -- what the definitions promise
 pub mod Laws
--- What follows is cited by private clauses alone: what the code makes on the way.
-pub mod Steps
+-- what private clauses alone cite
+pub mod Private

@@ -2,7 +2,7 @@
 --
 -- The bytes are those from the address on that the reference and the offset come to; no more than 65,536 are asked for.
 -- The first of them has to lie in memory. Where none is asked for, the address need only be a number of 32 bits. Where
--- memory ends before the last of them, the answer has those that there are, and says how many are missing.
+-- memory ends before the last of them, the answer has the bytes up to its end, and says how many are missing.
 use Rattle.std.specs.Prelude.{◌≡◌, ℕ, ◌-◌, ◌==◌, min, nat_lt, pos, Bool, ◌||◌, if◌then◌else◌, List, [], ◌∷◌, length}
 use Rattle.std.specs.Prelude.{Option, Some, None, is_some, Result, Ok, Err, codes, refl}
 use Rattle.image.specs.Memory.{byte_at, bytes_at}
@@ -16,7 +16,7 @@ use Rattle.numerals.specs.Words.{word_of}
 
 -- ---- where reading begins
 
--- whether so many bytes can be read from an address on, if not all of them
+-- whether reading this many bytes can begin at an address, even if not all of them are there
 abbrev pub can_begin : List ℕ → ℕ → ℕ → Bool
 can_begin memory count address = (count == 0) || is_some (byte_at memory address)
 
@@ -36,7 +36,7 @@ start memory arguments = start_by memory arguments (word_of arguments.memory_ref
 
 -- ---- what is read
 
--- the bytes from an address on, so many at most; no address has more than 32 bits
+-- at most this many bytes from an address on; no address has more than 32 bits
 abbrev pub bytes_from : List ℕ → ℕ → ℕ → List ℕ
 bytes_from memory count address = bytes_at memory address (min count (4294967296 - address))
 

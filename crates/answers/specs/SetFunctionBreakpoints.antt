@@ -27,7 +27,7 @@ abbrev pub judged : Table → ℕ → FunctionBreakpoint → Result Place Proble
 judged table size asked =
     placed size (conditions_of asked.condition asked.hit_condition) (label_address table (trimmed asked.name))
 
--- the answer, with these labels and a memory of so many bytes
+-- the answer, with these labels and a memory of this many bytes
 abbrev pub set_function_breakpoints : Table → ℕ → ℕ → given.SetFunctionBreakpointsArguments → Answer
 set_function_breakpoints table size next arguments =
     if nat_lt 1024 (length arguments.breakpoints) then record { result = Err TooMuch; list = None }

@@ -23,7 +23,7 @@ pub record Place : Type 0 where
   pub address : ℕ
   pub conditions : Conditions
 
--- whether an address can be an instruction's, in a memory of so many bytes
+-- whether an address can be an instruction's, in a memory of this many bytes
 abbrev pub is_instructions : ℕ → ℕ → Bool
 is_instructions size address =
     nat_le first_address address && (nat_lt address (first_address + size) && (address % 4 == 0))
@@ -66,7 +66,7 @@ wanted id place =
       log = None;
     }
 
--- the answer, with a memory of so many bytes
+-- the answer, with a memory of this many bytes
 abbrev pub set_instruction_breakpoints : ℕ → ℕ → given.SetInstructionBreakpointsArguments → Answer
 set_instruction_breakpoints size next arguments =
     if nat_lt 1024 (length arguments.breakpoints) then record { result = Err TooMuch; list = None }

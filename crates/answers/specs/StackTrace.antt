@@ -34,7 +34,7 @@ use Rattle.answers.specs.declared.view.View.{View}
 abbrev pub addresses : Debugged → List ℕ
 addresses machine = machine.hart.pc ∷ machine.calls.calls
 
--- the indices of those that are given, where there are so many
+-- the indices of those that are given, of this many frames
 abbrev pub indices : StackTraceArguments → ℕ → List ℕ
 indices arguments count = part arguments.start_frame arguments.levels (range_with_len 0 count)
 

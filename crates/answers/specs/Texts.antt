@@ -1,7 +1,7 @@
 -- The disassembly of a word, as a function.
 --
--- `rv32i` says by rules when a text is the disassembly of a word at an address (`Texts.IsTextOf`), and that there is one
--- at most. As answers are functions of what was asked, the same is said here as a function: each word has a text at
+-- `rv32i` says by rules when a text is the disassembly of a word at an address (`Texts.IsTextOf`), and that at most one
+-- is. As answers are functions of what was asked, the same is said here as a function: each word has a text at
 -- each address, by those rules, and `text_at` is it.
 use Rattle.std.specs.Prelude.{◌≡◌, ℕ, Bool, true, false, List, Option, Some, None, refl, codes}
 use Rattle.std.specs.Bool.{MatchBool}
@@ -26,7 +26,7 @@ pub record WordText (word pc : ℕ) : Type 0 where
   pub text : List ℕ
   pub is : IsTextOf word pc text
 
--- of a FENCE: that of the statement that stands for it, if one does, else its word
+-- of a FENCE: the statement that is assembled to it, if there is one, else its word
 fence_text : (test : Bool) (statement : List ℕ) (word : ℕ) (Q : ℕ → Type 0) → ((other : ℕ) → Q other → word ≡ other) →
     (text : List ℕ) × MatchBool test (text ≡ statement) ((other : ℕ) → Q other → text ≡ word_text other)
 fence_text true statement word Q same = (statement, refl)
@@ -79,7 +79,7 @@ text_of (Fence fm before after rd rs1) word pc e =
 text_of Ecall word pc e = record { text = _; is = refl }
 text_of Ebreak word pc e = record { text = _; is = refl }
 
--- of each word: the one that there is
+-- of each word, its only text
 text_by : (word pc : ℕ) (instr : Option Instr) → IsDecoding word instr → WordText word pc
 text_by word pc None none = record { text = word_text word; is = Illegal none refl }
 text_by word pc (Some i) e = let found = text_of i word pc e in record { text = found.text; is = Coded i e found.is }

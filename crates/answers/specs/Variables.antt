@@ -1,6 +1,6 @@
 -- What `variables` answers (DAP specification, `VariablesRequest`, `Variable`).
 --
--- The variables of a scope are a list, of which a request may ask for part. None of them is an element of a variable, so
+-- The variables of a scope are a list, and a request may ask for part of it. None of them is an element of a variable, so
 -- where only such ones are asked for (`filter` `indexed`), there are none.
 use Rattle.std.specs.Prelude.{List, [], Option, Some, None, Result, Ok, Err}
 use Rattle.message_parts.specs.declared.variables.Variable.{Variable}

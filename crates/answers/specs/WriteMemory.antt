@@ -28,11 +28,11 @@ start memory arguments = start_by memory arguments (word_of arguments.memory_ref
 
 -- ---- what is written
 
--- how many of so many bytes fit into memory from an address on: as many as can be read there
+-- how many of this many bytes fit into memory from an address on: as many as can be read there
 abbrev pub fitting : List ℕ → ℕ → ℕ → ℕ
 fitting memory count address = length (bytes_from memory count address)
 
--- so many of the bytes are written from an address on
+-- this many of the bytes are written from an address on
 abbrev pub writing_of : ℕ → ℕ → Writing
 writing_of address count =
     record { body = WriteMemory (record { bytes_written = count }); address = address; count = count }

@@ -16,7 +16,7 @@ use stepping::Runner;
 /// The most breakpoints that one request may ask for.
 pub(crate) const MOST: usize = 1024;
 
-/// What comes of a request that sets breakpoints.
+/// The answer to a request that sets breakpoints, and what it sets.
 #[derive(Drop)]
 pub struct BreakAnswer {
     /// The body of the success, in which each breakpoint has an entry, or the refusal.

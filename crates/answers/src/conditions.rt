@@ -4,7 +4,7 @@ ghost use Rattle.std.specs.Prelude.{◌≡◌, ◌≤◌, length, option_copied,
 ghost use Rattle.answers.specs.Expressions.{expression_of};
 ghost use Rattle.answers.specs.Spaces.{said};
 ghost use Rattle.answers.specs.Conditions as spec;
-ghost use Rattle.answers.specs.Steps.{condition_by, conditions_by};
+ghost use Rattle.answers.specs.Private.Steps.{condition_by, conditions_by};
 
 use crate::problem::Problem;
 use crate::spaces::said;

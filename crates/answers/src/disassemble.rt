@@ -59,7 +59,7 @@ fn first_place(reference: u32, offset: i32, instructions: i32) -> i64
     i64::from(reference) + i64::from(offset) + 4 * i64::from(instructions)
 }
 
-// So many entries from a place on.
+// `count` entries from a place on.
 fn entries_from(
     alloc: Global,
     memory: &Memory,

@@ -1,4 +1,4 @@
-//! What requests about the machine answer: computed from what they are lent, of which nothing is changed.
+//! What requests about the machine answer: computed from what they are lent, without changing it.
 //!
 //! A request has a module of its own name. `breaks` has the answers of those that set breakpoints, `looking` of those that look into a
 //! stopped machine, and `set_variable` and `write_memory` say what is to be changed of it.

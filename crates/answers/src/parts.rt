@@ -1,9 +1,9 @@
 //! Part of a list.
 
 ghost use Rattle.std.specs.Prelude.{◌≡◌, ◌≤◌};
-ghost use Rattle.answers.specs.Steps.{end_in, first_in};
+ghost use Rattle.answers.specs.Private.Steps.{end_in, first_in};
 
-/// The index of the first element that is asked for, in a list of so many; `length` where that is after the list's end.
+/// The index of the first element that is asked for, in a list of this length; `length` where that is after the list's end.
 pub(crate) fn first_in(start: u32, length: usize) -> usize
     ensures first { result ≡ first_in start length }
     ensures within { result ≤ length }
@@ -11,7 +11,7 @@ pub(crate) fn first_in(start: u32, length: usize) -> usize
     (start as usize).min(length)
 }
 
-/// The index after the last element that is asked for, where so many at most are asked for from the first on; all where there is no
+/// The index after the last element that is asked for, where at most `count` are asked for from the first on; all where there is no
 /// count, or it is 0.
 pub(crate) fn end_in(first: usize, count: Option<u32>, length: usize) -> usize
     requires { first ≤ length }

@@ -101,7 +101,7 @@ fn body_at(
     }))
 }
 
-// The bytes from an address on, so many at most.
+// The bytes from an address on, at most `count`.
 fn bytes_from(
     alloc: Global,
     memory: &Memory,

@@ -7,7 +7,7 @@ ghost use Rattle.answers.specs.Breakpoints.{entries_of, list_of};
 ghost use Rattle.answers.specs.Conditions.{MayTakeMemory};
 ghost use Rattle.answers.specs.SetBreakpoints as spec;
 ghost use Rattle.answers.specs.Spaces.{said};
-ghost use Rattle.answers.specs.Steps.{list_in, source_place_by, source_place_in, Takes, conditions_in};
+ghost use Rattle.answers.specs.Private.Steps.{list_in, source_place_by, source_place_in, Takes, conditions_in};
 
 use crate::breaks::{BreakAnswer, MOST};
 use crate::conditions::{Conditions, conditions_of};

@@ -7,7 +7,7 @@ ghost use Rattle.answers.specs.Conditions.{MayTakeMemory};
 ghost use Rattle.answers.specs.SetFunctionBreakpoints as spec;
 ghost use Rattle.answers.specs.SetInstructionBreakpoints.{entry as entry_for, wanted};
 ghost use Rattle.answers.specs.Spaces.{said};
-ghost use Rattle.answers.specs.Steps.{instruction_place_by, list_in, Takes, conditions_in};
+ghost use Rattle.answers.specs.Private.Steps.{instruction_place_by, list_in, Takes, conditions_in};
 
 use crate::breaks::{BreakAnswer, MOST};
 use crate::conditions::{Conditions, conditions_of};
@@ -20,7 +20,7 @@ use protocol::{Entries, FunctionBreakpoint, Refusal, SetFunctionBreakpointsArgum
 use replies::{InstructionBreakpoint, ResponseBody, SetFunctionBreakpoints};
 use std::alloc::{AllocError, Global};
 
-/// The answer, with the labels of this table, a memory of so many bytes and this number for the first breakpoint that is set. More than
+/// The answer, with the labels of this table, a memory of `size` bytes and this number for the first breakpoint that is set. More than
 /// 1,024 breakpoints are refused as too many. It fails where no memory is left.
 pub(crate) fn answer(
     alloc: Global,

@@ -6,7 +6,7 @@ ghost use Rattle.answers.specs.Breakpoints.{entries_of, list_of};
 ghost use Rattle.answers.specs.Conditions.{MayTakeMemory};
 ghost use Rattle.answers.specs.SetInstructionBreakpoints as spec;
 ghost use Rattle.answers.specs.Spaces.{said};
-ghost use Rattle.answers.specs.Steps.{instruction_place_by, instruction_place_in, list_in, Takes, conditions_in};
+ghost use Rattle.answers.specs.Private.Steps.{instruction_place_by, instruction_place_in, list_in, Takes, conditions_in};
 
 use crate::breaks::{BreakAnswer, MOST};
 use crate::conditions::{Conditions, conditions_of};
@@ -26,7 +26,7 @@ pub(crate) struct Place {
     pub(crate) conditions: Conditions,
 }
 
-/// The answer, with a memory of so many bytes and this number for the first breakpoint that is set. More than 1,024 breakpoints are
+/// The answer, with a memory of `size` bytes and this number for the first breakpoint that is set. More than 1,024 breakpoints are
 /// refused as too many. It fails where no memory is left.
 pub(crate) fn answer(
     alloc: Global,

@@ -1,10 +1,10 @@
-//! What comes of a request that looks into a stopped machine.
+//! The answer to a request that looks into a stopped machine.
 
 use protocol::Refusal;
 use replies::ResponseBody;
 use variables::Target;
 
-/// What comes of a request that looks into a stopped machine.
+/// The answer to a request that looks into a stopped machine, and what it needs numbers for.
 #[derive(Drop)]
 pub struct Look {
     /// The body of the success, in which the targets have the numbers to come, or the refusal.

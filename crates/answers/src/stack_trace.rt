@@ -4,7 +4,7 @@ ghost use Rattle.std.specs.Prelude.{◌≡◌, ◌+◌, ◌-◌, ◌<◌, ◌≤
 ghost use Rattle.std.specs.List.{range_with_len};
 ghost use Rattle.answers.specs.Looking.{look_by};
 ghost use Rattle.answers.specs.StackTrace as spec;
-ghost use Rattle.answers.specs.Steps.{frames_from};
+ghost use Rattle.answers.specs.Private.Steps.{frames_from};
 ghost use Rattle.rv32i.specs.Texts.{address_text};
 
 use crate::editor_lines::line_in_editor;

@@ -65,7 +65,7 @@ fn asked_of(arguments: &VariablesArguments, list: Vec<Variable>) -> Vec<Variable
     }
 }
 
-// The part of a list from an index on, with so many elements at most.
+// The part of a list from an index on, with at most `count` elements.
 fn part(start: u32, count: Option<u32>, list: Vec<Variable>) -> Vec<Variable>
     ensures { result.items ≡ part start count list.items }
 {

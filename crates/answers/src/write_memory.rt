@@ -106,7 +106,7 @@ fn writing_of(address: u32, count: u32) -> Writing
     }
 }
 
-// How many of so many bytes fit into memory.
+// How many of `count` bytes fit into memory.
 fn fitting(memory: &Memory, count: u32, address: u32) -> u32
     requires { IsTrue (can_begin memory.now count address) }
     ensures fitting { result ≡ spec.fitting memory.now count address }

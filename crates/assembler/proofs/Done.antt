@@ -1,15 +1,6 @@
 -- What has been read, placed and filled is placed as a whole.
-use Rattle.std.proofs.Common.{◌≡◌, ℕ, ◌+◌, ◌≤◌, arith, List, length, Ok, sym, ap, subst, ◌∙◌}
-use Rattle.image.specs.Lines.{Label, Row}
-use Rattle.image.specs.Memory.{first_address}
+use Rattle.assembler.proofs.Common.{ap, AreParts, arith, content_error, entry_of, error_by, first_address, first_of, IsLayout, Label, labels_in, length, List, memory_end, Ok, Placed, placed, places, read_text, Row, Source, subst, sym, ℕ, ◌+◌, ◌∙◌, ◌≡◌, ◌≤◌}
 use Rattle.image.specs.declared.Image.{Image}
-use Rattle.assembler.specs.Contents.{AreParts, content_error}
-use Rattle.assembler.specs.Errors.{first_of}
-use Rattle.assembler.specs.Placed.{error_by, memory_end, Placed, placed}
-use Rattle.assembler.specs.Places.{entry_of, labels_in, places}
-use Rattle.assembler.specs.Program.{read_text}
-use Rattle.assembler.specs.declared.program.Source.{Source}
-use Rattle.assembler.specs.Steps.{IsLayout}
 use Rattle.assembler.proofs.Filling.{parts_length, parts_right}
 
 pub placed_so : (text : List ℕ) (size : ℕ) (image : Image) (program : List Source) (labels : List Label) (rows : List Row) (end : ℕ) (bytes : List ℕ)

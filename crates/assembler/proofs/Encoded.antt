@@ -1,17 +1,11 @@
 -- An instruction whose operands fit has a word: the one that is computed of it.
-use Rattle.std.proofs.Common.{◌≡◌, ℕ, ◌+◌, ◌%◌, ◌^◌, ◌<◌, refl, arith}
+use Rattle.assembler.proofs.Common.{arith, branch_instruction, Condition, Encodes, immediate_instruction, ImmediateOperation, Instr, refl, store_instruction, StoreOperation, ℕ, ◌%◌, ◌+◌, ◌<◌, ◌^◌, ◌≡◌}
 use Rattle.rv32i.proofs.Sums.{b_sum, fence_sum, i_sum, j_sum, r_sum, s_sum, u_sum}
-use Rattle.rv32i.specs.Encoding.{Encodes}
 use Rattle.rv32i.specs.Formats.{BType, FenceType, IType, JType, RType, SType, UType}
 use Rattle.rv32i.specs.Words.{b_word, fence_word, i_word, j_word, r_word, s_word, u_word, word_of}
-use Rattle.rv32i.specs.declared.instr.Instr.{Instr}
 use Rattle.rv32i.specs.declared.instr.Instr.TheVariants as i
-use Rattle.statements.specs.Operations.{branch_instruction, immediate_instruction, store_instruction}
-use Rattle.statements.specs.declared.operations.Condition.{Condition}
 use Rattle.statements.specs.declared.operations.Condition.TheVariants as c
-use Rattle.statements.specs.declared.operations.ImmediateOperation.{ImmediateOperation}
 use Rattle.statements.specs.declared.operations.ImmediateOperation.TheVariants as m
-use Rattle.statements.specs.declared.operations.StoreOperation.{StoreOperation}
 use Rattle.statements.specs.declared.operations.StoreOperation.TheVariants as t
 
 -- ---- the ranges of operands
@@ -25,7 +19,7 @@ pub record IsShort (n : ℕ) : Type 0 where
   pub fits : n < 2 ^ 32
   pub near : (n + 2 ^ 11) % 2 ^ 32 < 2 ^ 12
 
--- 32 bits of which the low 12 are 0
+-- 32 bits, where the low 12 are 0
 pub record IsUpper (n : ℕ) : Type 0 where
   pub fits : n < 2 ^ 32
   pub whole : n % 2 ^ 12 ≡ 0

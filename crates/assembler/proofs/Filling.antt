@@ -1,23 +1,11 @@
 -- Lines that are filled one by one.
-use Rattle.std.proofs.Common.{◌≡◌, ℕ, ◌+◌, ◌*◌, ◌^◌, ◌<◌, ◌≤◌, length-append, List, [], ◌∷◌, ◌++◌, length, get_or, drop, Option, Some, None, Result, Ok, Err, refl, sym, ap, subst, ◌∙◌, arith, append_assoc}
-use Rattle.std.proofs.lemmas.List.{append-nil, at_drop_more, at_drop_all, length-replicate}
-use Rattle.image.specs.Memory.{first_address}
-use Rattle.image.specs.Lines.{Label}
-use Rattle.rv32i.specs.declared.instr.Instr.{Instr}
+use Rattle.assembler.proofs.Common.{[], and_then, ap, append-nil, append_assoc, AreParts, AreWords, arith, AsmErrorKind, at_drop_all, at_drop_more, bytes_in, call, Coded, coded_branch, coded_jump, Contained, content_at, content_error, content_of, distance_of, drop, end_of, end_of_line, Err, error_at, first_address, get_or, Instr, IsPart, IsWord, item_bytes, items_bytes, Label, length, length-append, length-replicate, List, load_address, lower, lower_part, None, Ok, one, Option, padding, Place, place, places, plain, refl, reported_at, reported_kind, Reports, ReportsKind, Result, size_at, size_of, Some, Source, Statement, store_lower, subst, sym, upper, upper_part, value_of, with_more, Writes, wrong_in, ℕ, ◌*◌, ◌++◌, ◌+◌, ◌<◌, ◌^◌, ◌∙◌, ◌∷◌, ◌≡◌, ◌≤◌}
 use Rattle.rv32i.specs.declared.instr.Instr.TheVariants as i
-use Rattle.statements.specs.Operations.{lower_part, upper_part}
 use Rattle.statements.specs.declared.items.Item.{Item}
 use Rattle.statements.specs.declared.items.Width.{Width}
 use Rattle.statements.specs.declared.items.Width.TheVariants.{Byte, Half, Word}
-use Rattle.statements.specs.declared.statement.Statement.{Statement}
 use Rattle.statements.specs.declared.statement.Statement.TheVariants as say
-use Rattle.assembler.specs.Contents.{and_then, AreParts, AreWords, coded_branch, call, Coded, Contained, content_at, content_error, content_of, distance_of, IsPart, IsWord, item_bytes, items_bytes, coded_jump, load_address, lower, one, plain, store_lower, upper, value_of, with_more, wrong_in}
-use Rattle.assembler.specs.Errors.{Reports}
-use Rattle.assembler.specs.Places.{end_of_line, bytes_in, end_of, error_at, padding, Place, place, places, size_at, size_of}
-use Rattle.assembler.specs.declared.error.AsmErrorKind.{AsmErrorKind}
 use Rattle.assembler.specs.declared.error.AsmErrorKind.TheVariants as k
-use Rattle.assembler.specs.declared.program.Source.{Source}
-use Rattle.assembler.specs.Steps.{ReportsKind, Writes, reported_at, reported_kind}
 use Rattle.assembler.proofs.Placing.{reported_so}
 
 -- no line ends after the last
@@ -87,14 +75,7 @@ filled_all limit labels program count bytes address f end =
 
 reported_wrong : (kind : AsmErrorKind) (contained : Contained) → ReportsKind kind contained → reported_kind kind (wrong_in contained)
 reported_wrong k.NoMemory contained h = tt
-reported_wrong k.NotUtf8 contained h = ap wrong_in h
-reported_wrong k.Syntax contained h = ap wrong_in h
-reported_wrong k.UnknownInstruction contained h = ap wrong_in h
-reported_wrong k.BadOperand contained h = ap wrong_in h
-reported_wrong k.OutOfRange contained h = ap wrong_in h
-reported_wrong k.TwiceDefined contained h = ap wrong_in h
-reported_wrong k.Undefined contained h = ap wrong_in h
-reported_wrong k.TooLarge contained h = ap wrong_in h
+reported_wrong _ contained h = ap wrong_in h
 
 pub filled_wrong : (limit : ℕ) (labels : List Label) (program : List Source) (count : ℕ) (source : Source) (bytes : List ℕ) (address : ℕ) (kind : AsmErrorKind)
     → IsFilled limit labels program count bytes address → (count < length program) × (source ≡ get_or program count source)

@@ -1,15 +1,10 @@
 -- Labels in a map by name, and in a list in the order of the text.
-use Rattle.std.proofs.Common.{◌≡◌, ℕ, ◌<◌, ◌≤◌, length, get_or, arith, false, cond, List, [], ◌∷◌, ◌++◌, map, Option, Some, None, String, refl, ap, ◌∙◌}
+use Rattle.assembler.proofs.Common.{[], ap, arith, bytes_eq, cond, entry_of, false, first_of, first_start, get_or, labels_of, length, List, map, named, None, Option, or_first, refl, Row, Some, start, String, ℕ, ◌++◌, ◌<◌, ◌∙◌, ◌∷◌, ◌≡◌, ◌≤◌}
 use Rattle.std.specs.Map.{lookup}
 use Rattle.std.specs.Option.{is_some}
-use Rattle.std.specs.Str.{bytes_eq}
 use Rattle.std.specs.String.{string_bytes, string_eq}
 use Rattle.indexmap.specs.IndexMap.{get, IndexMap, insert_entry}
 use Rattle.indexmap.proofs.CallerLemmas.{insert_entry-new}
-use Rattle.image.specs.Lines.{labels_of, Row}
-use Rattle.assembler.specs.Errors.{first_of}
-use Rattle.assembler.specs.Places.{entry_of, first_start, or_first, start}
-use Rattle.statements.specs.Spelling.{named}
 
 -- what a look-up by name finds is what stands beside the name in the list
 pub looked_up : {Z : Type 0} (entries : List (String Z × ℕ)) (name : List ℕ)

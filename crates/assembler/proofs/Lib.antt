@@ -1,3 +1,4 @@
+pub mod Common
 pub mod Reporting
 pub mod Reading
 pub mod Labelled

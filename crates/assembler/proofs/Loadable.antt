@@ -1,21 +1,7 @@
 -- An image that is right for a text can be loaded: it fits into memory, and it starts at a multiple of 4.
-use Rattle.std.proofs.Common.{◌≡◌, ℕ, ◌%◌, ◌≤◌, Bool, true, false, List, [], ◌∷◌, ◌++◌, map, Option, Some, None, refl, sym, ap, subst, ◌∙◌, arith}
-use Rattle.std.specs.Prelude.{nat_le, ◌==◌, ◌&&◌, ◌||◌, not}
-use Rattle.std.specs.List.{list_any}
-use Rattle.std.specs.Str.{bytes_eq}
-use Rattle.std.proofs.lemmas.Bool.Decides.{nat_tests}
+use Rattle.assembler.proofs.Common.{[], ap, arith, AsmError, Bool, bytes_eq, content_error, defines_twice, end_of, end_of_line, entry_of, error_by, false, first_address, first_of, first_start, is_aligned, IsLayout, Label, labels_at, labels_in, List, list_any, map, memory_end, misplaced, named, nat_le, nat_tests, None, not, Option, or_first, Place, place, place_error, placed, PlacedIsLoadable, places, refl, Row, rows_in, RowsRise, Some, Source, start, subst, sym, true, words_at, ℕ, ◌%◌, ◌++◌, ◌||◌, ◌∙◌, ◌∷◌, ◌≡◌, ◌≤◌}
+use Rattle.std.specs.Prelude.{◌==◌, ◌&&◌}
 use Rattle.std.proofs.lemmas.Slice.Eq.{bytes_eq-Decides}
-use Rattle.image.specs.Lines.{Label, Row, RowsRise}
-use Rattle.image.specs.Memory.{first_address}
-use Rattle.statements.specs.Spelling.{named}
-use Rattle.assembler.specs.Assembled.{PlacedIsLoadable}
-use Rattle.assembler.specs.Contents.{content_error}
-use Rattle.assembler.specs.Errors.{first_of}
-use Rattle.assembler.specs.Placed.{error_by, memory_end, placed}
-use Rattle.assembler.specs.Places.{defines_twice, end_of, end_of_line, entry_of, first_start, is_aligned, labels_at, labels_in, misplaced, or_first, Place, place, place_error, places, rows_in, start, words_at}
-use Rattle.assembler.specs.Steps.{IsLayout}
-use Rattle.assembler.specs.declared.error.AsmError.{AsmError}
-use Rattle.assembler.specs.declared.program.Source.{Source}
 use Rattle.assembler.proofs.Done.{fits_so}
 use Rattle.assembler.proofs.Rising.{multiple, parted, rows_rise}
 

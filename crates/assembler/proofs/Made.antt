@@ -1,14 +1,8 @@
 -- The image that is made of a text is the one that is right for it.
-use Rattle.std.proofs.Common.{◌≡◌, ℕ, ◌+◌, length, List, [], ◌∷◌, ◌++◌, Ok, Err, sym, ap, ◌∙◌}
-use Rattle.image.specs.Lines.{Label}
-use Rattle.image.specs.Memory.{first_address, word_bytes}
+use Rattle.assembler.proofs.Common.{[], ap, AreParts, AreWords, Code, code_bytes, Contained, content_at, Err, first_address, image_by, image_of, Instr, IsPart, Label, labels_in, length, List, Ok, part_of, parts_of, Place, Placed, placed, PlacedIsAssembled, Plain, sym, word_bytes, ℕ, ◌++◌, ◌+◌, ◌∙◌, ◌∷◌, ◌≡◌}
 use Rattle.image.specs.declared.Image.{Image}
-use Rattle.rv32i.specs.declared.instr.Instr.{Instr}
 use Rattle.rv32i.proofs.Computed.{computed}
-use Rattle.assembler.specs.Assembled.{assembled, code_bytes, image_by, image_of, part_of, parts_of, PlacedIsAssembled}
-use Rattle.assembler.specs.Contents.{AreParts, AreWords, Code, Contained, content_at, IsPart, Plain}
-use Rattle.assembler.specs.Placed.{placed, Placed}
-use Rattle.assembler.specs.Places.{labels_in, Place}
+use Rattle.assembler.specs.Assembled.{assembled}
 
 words_made : (list : List Instr) (bytes : List ℕ) → AreWords list bytes → bytes ≡ code_bytes list
 words_made [] bytes h = h

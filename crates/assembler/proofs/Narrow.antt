@@ -1,26 +1,10 @@
 -- The numbers of a line table have 32 bits.
-use Rattle.std.proofs.Common.{◌≡◌, ℕ, ◌+◌, ◌≤◌, ◌<◌, ◌^◌, Bool, true, false, cond, ltb, eqb, List, [], ◌∷◌, ◌++◌, length, Option, Some, None, Result, Ok, Err, refl, arith}
-use Rattle.std.specs.Prelude.{All}
-use Rattle.std.specs.List.{slice_split, onto_first}
-use Rattle.std.specs.Str.{is_utf8}
-use Rattle.std.specs.Str.Lines.{lines, lines_of_parts}
-use Rattle.std.proofs.lemmas.Bool.Decides.{nat_tests}
+use Rattle.assembler.proofs.Common.{[], All, arith, AsmError, AssembledIsNarrow, at, Bool, cond, content_error, end_of_line, eqb, Err, error_by, false, first_address, first_of, image_by, is_utf8, IsNarrowRow, Label, labels_at, labels_in, length, Line, line_at, line_then, LineError, lines, lines_of_parts, List, ltb, memory_end, misplaced, nat_tests, None, Ok, onto_first, Option, place, place_error, placed, places, read, read_by, read_lines, refl, Result, row_of, rows_at, rows_in, says_nothing, slice_split, Some, Source, text_limit, true, words_at, ℕ, ◌++◌, ◌+◌, ◌<◌, ◌^◌, ◌∷◌, ◌≡◌, ◌≤◌}
 use Rattle.std.proofs.lemmas.List.Elements.{All-nil, All-cons, All-append, All-head, All-tail}
-use Rattle.image.specs.Lines.{Label}
-use Rattle.image.specs.Memory.{first_address}
-use Rattle.statements.specs.Reading.{read}
-use Rattle.statements.specs.declared.error.LineError.{LineError}
-use Rattle.statements.specs.declared.line.Line.{Line}
-use Rattle.assembler.specs.Assembled.{AssembledIsNarrow, IsNarrowRow, assembled, image_by}
-use Rattle.assembler.specs.Contents.{content_error}
-use Rattle.assembler.specs.Errors.{at, first_of}
-use Rattle.assembler.specs.Placed.{error_by, memory_end, placed}
-use Rattle.assembler.specs.Places.{end_of_line, labels_at, labels_in, misplaced, place, place_error, places, row_of, rows_at, rows_in, words_at}
-use Rattle.assembler.specs.Program.{line_at, line_then, read_by, read_lines, read_text, says_nothing, text_limit, whole_error}
+use Rattle.assembler.specs.Assembled.{assembled}
+use Rattle.assembler.specs.Program.{read_text, whole_error}
 use Rattle.std.specs.Str.Lossy.{utf8_valid_len}
 use Rattle.assembler.specs.declared.error.AsmErrorKind.TheVariants as k
-use Rattle.assembler.specs.declared.error.AsmError.{AsmError}
-use Rattle.assembler.specs.declared.program.Source.{Source}
 use Rattle.assembler.proofs.Loadable.{ends}
 use Rattle.assembler.proofs.Ranges.{either}
 use Rattle.assembler.proofs.Rising.{parted}

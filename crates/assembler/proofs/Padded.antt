@@ -1,12 +1,8 @@
 -- Bytes up to a multiple of a power of 2.
-use Rattle.std.proofs.Common.{◌≡◌, ℕ, ◌+◌, ◌-◌, ◌*◌, ◌%◌, ◌^◌, ◌<◌, ◌≤◌, Bool, true, false, Some, None, refl, sym, ap, ◌∙◌, arith}
-use Rattle.std.specs.Prelude.{nat_le}
+use Rattle.assembler.proofs.Common.{ap, arith, Bool, false, nat_le, nat_tests, None, padding, refl, Some, sym, true, up_to, ℕ, ◌%◌, ◌*◌, ◌+◌, ◌-◌, ◌<◌, ◌^◌, ◌∙◌, ◌≡◌, ◌≤◌}
 use Rattle.std.proofs.Math.Nat.{mod-eq_of_lt, mod_self}
 use Rattle.std.proofs.Math.Pow.{pow_mono}
-use Rattle.std.proofs.lemmas.Bool.Decides.{nat_tests}
 use Rattle.std.proofs.lemmas.Nat.{one_shl}
-use Rattle.assembler.specs.Places.{padding}
-use Rattle.assembler.specs.Steps.{up_to}
 
 pub above : (limit address : ℕ) → limit < address → up_to limit address ≡ None
 above limit address h = let t : nat_le address limit ≡ false = grind (arith, nat_tests) in rw t refl

@@ -1,14 +1,6 @@
 -- Lines that are placed one by one.
-use Rattle.std.proofs.Common.{◌≡◌, ℕ, ◌≤◌, List, [], ◌++◌, drop, Option, refl, ap, ◌∙◌}
-use Rattle.image.specs.Memory.{first_address}
-use Rattle.image.specs.Lines.{Label, Row}
-use Rattle.assembler.specs.Errors.{Reports}
-use Rattle.assembler.specs.Places.{end_of, error_at, labels_in, place_error, places, rows_in}
-use Rattle.assembler.specs.declared.error.AsmError.{AsmError}
-use Rattle.assembler.specs.declared.error.AsmErrorKind.{AsmErrorKind}
+use Rattle.assembler.proofs.Common.{[], ap, AsmError, AsmErrorKind, drop, end_of, error_at, first_address, Label, labels_in, List, Option, place_error, places, refl, reported_at, reported_kind, Reports, Row, rows_in, Source, ℕ, ◌++◌, ◌∙◌, ◌≡◌, ◌≤◌}
 use Rattle.assembler.specs.declared.error.AsmErrorKind.TheVariants as k
-use Rattle.assembler.specs.declared.program.Source.{Source}
-use Rattle.assembler.specs.Steps.{reported_at, reported_kind}
 
 -- ---- lines so far
 
@@ -24,11 +16,4 @@ pub record IsReached (limit : ℕ) (program : List Source) (count : ℕ) (labels
 pub reported_so : (kind : AsmErrorKind) (line : ℕ) (wrong : Option AsmErrorKind) (later found : Option AsmError) → reported_kind kind wrong
     → found ≡ error_at line wrong later → Reports (reported_at line kind) found
 reported_so k.NoMemory line wrong later found h e = refl
-reported_so k.NotUtf8 line wrong later found h e = e ∙ ap (λ w. error_at line w later) h
-reported_so k.Syntax line wrong later found h e = e ∙ ap (λ w. error_at line w later) h
-reported_so k.UnknownInstruction line wrong later found h e = e ∙ ap (λ w. error_at line w later) h
-reported_so k.BadOperand line wrong later found h e = e ∙ ap (λ w. error_at line w later) h
-reported_so k.OutOfRange line wrong later found h e = e ∙ ap (λ w. error_at line w later) h
-reported_so k.TwiceDefined line wrong later found h e = e ∙ ap (λ w. error_at line w later) h
-reported_so k.Undefined line wrong later found h e = e ∙ ap (λ w. error_at line w later) h
-reported_so k.TooLarge line wrong later found h e = e ∙ ap (λ w. error_at line w later) h
+reported_so _ line wrong later found h e = e ∙ ap (λ w. error_at line w later) h

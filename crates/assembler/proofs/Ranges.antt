@@ -2,36 +2,23 @@
 --
 -- Some types of the crate `statements` have no name here: a value of theirs is taken by a function that is named, or given by one. A
 -- mnemonic is one of the tables', and operands are counted, so both are taken apart as lists.
-use Rattle.std.proofs.Common.{◌≡◌, ℕ, ◌+◌, ◌-◌, ◌*◌, ◌%◌, ◌^◌, ◌<◌, ◌≤◌, Bool, true, false, cond, ◌==◌, ◌&&◌, ◌||◌, not, List, [], ◌∷◌, length, Option, Some, None, Result, Ok, Err, refl, arith, codes, lit<, lit≤}
-use Rattle.std.specs.Prelude.{nat_le, nat_lt}
-use Rattle.std.specs.List.{list_all}
-use Rattle.std.specs.Str.{bytes_eq}
-use Rattle.std.proofs.lemmas.Bool.{and_parts}
-use Rattle.std.proofs.lemmas.Bool.Decides.{nat_tests}
+use Rattle.assembler.proofs.Common.{[], and_parts, arith, Bool, bytes_eq, codes, cond, Condition, Err, false, ImmediateOperation, Instr, is_name, length, Line, line_of, LineError, List, list_all, lit<, lit≤, lower_part, meaning, named, nat_le, nat_lt, nat_tests, None, Ok, Option, parted, refl, Result, said, said_at, said_by, Some, Statement, statement_in, stating, StoreOperation, stripped, true, upper_part, ℕ, ◌%◌, ◌&&◌, ◌*◌, ◌+◌, ◌-◌, ◌<◌, ◌==◌, ◌^◌, ◌∷◌, ◌≡◌, ◌≤◌}
+use Rattle.std.proofs.Common.{◌||◌, not}
 use Rattle.std.proofs.lemmas.List.Quantifiers.{position-Some}
 use Rattle.rv32i.specs.Names.{names, numbered_names}
-use Rattle.rv32i.specs.declared.instr.Instr.{Instr}
 use Rattle.rv32i.specs.declared.instr.Instr.TheVariants as i
 use Rattle.statements.specs.Directives.{align, are_formed, global, items_in, section, space, stated}
 use Rattle.statements.specs.Instructions.{Said, add_upper, against_zero, amount_in, and_then, branch, call, constant, fence, immediate, jump, jump_and_link, jump_and_link_register, jump_register, jump_register_to, jump_to, load, load_address, load_immediate, load_upper, lower, store, store_lower, swapped, upper_by, upper_in, zero_against}
 use Rattle.statements.specs.Mnemonics.{access_mnemonics, branch_mnemonics, copy_mnemonics, directives, first_named, immediate_mnemonics, jump_mnemonics, mnemonic_of, or_else, plain_mnemonics, register_mnemonics, zero_branch_mnemonics}
 use Rattle.statements.specs.Numbers.{bits_by, bits_in, constant_in, number_in}
 use Rattle.statements.specs.Operands.{access_by, access_in, access_with, are_operands, base_by, bits_low, counted, first_found, immediate_in, index_of, label_in, low_by, low_in, offset_in, operand_list, or_bad, part_access, part_access_by, part_in, part_low, plain_access, register_in, register_of, set_in, sets, target_in}
-use Rattle.statements.specs.Operations.{lower_part, upper_part}
-use Rattle.statements.specs.Reading.{line_of, meaning, read, said, said_at, said_by, statement_in, stating}
-use Rattle.statements.specs.Spelling.{is_name, named, parted, stripped}
-use Rattle.statements.specs.declared.error.LineError.{LineError}
+use Rattle.statements.specs.Reading.{read}
 use Rattle.statements.specs.declared.error.LineError.TheVariants.{BadOperand, OutOfRange, Syntax}
 use Rattle.statements.specs.declared.items.Width.{Width}
 use Rattle.statements.specs.declared.items.Width.TheVariants.{Byte, Half, Word}
-use Rattle.statements.specs.declared.line.Line.{Line}
-use Rattle.statements.specs.declared.operations.Condition.{Condition}
 use Rattle.statements.specs.declared.operations.Condition.TheVariants as c
-use Rattle.statements.specs.declared.operations.ImmediateOperation.{ImmediateOperation}
 use Rattle.statements.specs.declared.operations.ImmediateOperation.TheVariants as m
-use Rattle.statements.specs.declared.operations.StoreOperation.{StoreOperation}
 use Rattle.statements.specs.declared.operations.StoreOperation.TheVariants as t
-use Rattle.statements.specs.declared.statement.Statement.{Statement}
 use Rattle.statements.specs.declared.statement.Statement.TheVariants as say
 use Rattle.assembler.proofs.Encoded.{Fits, IsRegister, IsShort, IsUpper, immediate_fits, store_fits}
 
@@ -77,7 +64,7 @@ gives_then : {A B : Type 0} (P : A → Type 0) (Q : B → Type 0) (x : Result A 
 gives_then P Q (Ok a) f x h = h a x
 gives_then P Q (Err error) f x h = tt
 
--- anything, of which nothing is asked
+-- anything, with nothing asked of it
 abbrev Any : {A : Type 0} → A → Type 0
 Any a = Unit {0}
 
@@ -97,11 +84,7 @@ IsCoded (say.Upper rd label) = IsRegister rd
 IsCoded (say.Lower operation rd rs1 label) = IsRegister rd × IsRegister rs1
 IsCoded (say.StoreLower operation rs1 rs2 label) = IsRegister rs1 × IsRegister rs2
 IsCoded (say.LoadAddress rd label) = IsRegister rd
-IsCoded (say.Call label) = Unit {0}
-IsCoded (say.Data width items) = Unit {0}
-IsCoded (say.Space count) = Unit {0}
-IsCoded (say.Align power) = Unit {0}
-IsCoded say.Nothing = Unit {0}
+IsCoded _ = Unit {0}
 
 -- ---- numbers
 

@@ -1,22 +1,11 @@
 -- Lines that are read one by one.
-use Rattle.std.proofs.Common.{◌≡◌, ℕ, ◌+◌, ◌<◌, ◌≤◌, Bool, true, false, List, [], ◌++◌, length, get_or, drop, Some, Result, Ok, Err, refl, sym, ap, ◌∙◌, arith, append_assoc}
-use Rattle.std.proofs.lemmas.List.{append-nil, at_drop_more, at_drop_all}
-use Rattle.statements.specs.Reading.{read}
-use Rattle.statements.specs.declared.error.LineError.{LineError}
-use Rattle.statements.specs.declared.line.Line.{Line}
-use Rattle.std.specs.Prelude.{IfSome, nat_lt, Option, None}
-use Rattle.std.specs.Str.{IsUtf8, is_utf8}
-use Rattle.std.specs.Str.Lines.{lines}
+use Rattle.assembler.proofs.Common.{[], after, ap, append-nil, append_assoc, arith, AsmError, at, at_drop_all, at_drop_more, Bool, drop, Err, error_in, false, false_from_ne_true, get_or, IfSome, is_utf8, IsUtf8, kept, length, Line, line_at, line_then, LineError, lines, List, nat_lt, nat_tests, Ok, read, read_by, read_lines, refl, Reports, Result, says_nothing, Some, Source, sym, text_limit, true, ℕ, ◌++◌, ◌+◌, ◌<◌, ◌∙◌, ◌≡◌, ◌≤◌}
+use Rattle.std.specs.Prelude.{Option, None}
 use Rattle.std.specs.Str.Lossy.{utf8_valid_len}
-use Rattle.std.proofs.lemmas.Bool.{false_from_ne_true}
-use Rattle.std.proofs.lemmas.Bool.Decides.{nat_tests}
 use Rattle.std.proofs.lemmas.Str.{IsUtf8-from_is_utf8, is_utf8-from_IsUtf8}
-use Rattle.assembler.specs.Errors.{at, error_in, Reports}
-use Rattle.assembler.specs.Program.{kept, line_at, line_then, read_by, read_lines, read_text, says_nothing, text_limit, whole_error}
+use Rattle.assembler.specs.Program.{read_text, whole_error}
 use Rattle.assembler.specs.declared.error.AsmErrorKind.TheVariants as k
-use Rattle.assembler.specs.declared.error.AsmError.{AsmError}
-use Rattle.assembler.specs.declared.program.Source.{Source}
-use Rattle.assembler.specs.Steps.{after, said}
+use Rattle.assembler.specs.Private.Steps.{said}
 use Rattle.assembler.proofs.Reporting.{reports_weaker}
 
 kept_before : (number : ℕ) (line : Line) (others : List Source) → kept number line others ≡ kept number line [] ++ others

@@ -1,22 +1,10 @@
 -- The rows of a program rise.
-use Rattle.std.proofs.Common.{◌≡◌, ℕ, ◌+◌, ◌*◌, ◌%◌, ◌≤◌, Bool, true, false, List, [], ◌∷◌, ◌++◌, Option, Some, None, Result, Ok, Err, refl, ap, subst, arith}
+use Rattle.assembler.proofs.Common.{[], ap, arith, AsmError, AsmErrorKind, Bool, defines_twice, end_of, end_of_line, Err, error_at, false, first_address, is_aligned, IsLayout, kept, Label, labels_at, Line, line_then, LineError, lines, List, misplaced, nat_tests, None, Ok, Option, Place, place, place_error, places, read, read_by, read_lines, refl, Result, Row, row_of, rows_in, RowsRise, says_nothing, size_at, size_of, Some, Source, Statement, subst, true, whole_error, words_at, words_of, ℕ, ◌%◌, ◌*◌, ◌++◌, ◌+◌, ◌∷◌, ◌≡◌, ◌≤◌}
 use Rattle.std.specs.Prelude.{◌==◌}
-use Rattle.std.specs.Str.Lines.{lines}
-use Rattle.std.proofs.lemmas.Bool.Decides.{nat_tests}
-use Rattle.image.specs.Memory.{first_address}
-use Rattle.image.specs.Lines.{end_of as row_end, Label, Row, RowsRise}
+use Rattle.image.specs.Lines.{end_of as row_end}
 use Rattle.image.proofs.Rows.{rows_rise_from-cons, rows_rise_from-nil, RowsRiseFrom}
-use Rattle.statements.specs.Reading.{read}
-use Rattle.statements.specs.declared.error.LineError.{LineError}
-use Rattle.statements.specs.declared.line.Line.{Line}
-use Rattle.statements.specs.declared.statement.Statement.{Statement}
 use Rattle.statements.specs.declared.statement.Statement.TheVariants as say
-use Rattle.assembler.specs.Places.{end_of_line, defines_twice, end_of, error_at, is_aligned, labels_at, misplaced, Place, place, place_error, places, row_of, rows_in, size_at, size_of, words_at, words_of}
-use Rattle.assembler.specs.Program.{kept, line_then, read_by, read_lines, read_text, says_nothing, whole_error}
-use Rattle.assembler.specs.declared.error.AsmError.{AsmError}
-use Rattle.assembler.specs.declared.error.AsmErrorKind.{AsmErrorKind}
-use Rattle.assembler.specs.declared.program.Source.{Source}
-use Rattle.assembler.specs.Steps.{IsLayout}
+use Rattle.assembler.specs.Program.{read_text}
 use Rattle.assembler.proofs.Filling.{end_of_le}
 
 -- ---- the lines' numbers rise
@@ -64,19 +52,11 @@ numbers text program h = numbers_by (whole_error text) text program h
 
 -- a statement that has code is its words
 size_words : (statement : Statement) (address : ℕ) → (words_of statement == 0) ≡ false → size_of statement address ≡ 4 * words_of statement
-size_words (say.One instruction) address h = refl
-size_words (say.Two first second) address h = refl
-size_words (say.Jump rd target) address h = refl
-size_words (say.Branch condition rs1 rs2 target) address h = refl
-size_words (say.Upper rd label) address h = refl
-size_words (say.Lower operation rd rs1 label) address h = refl
-size_words (say.StoreLower operation rs1 rs2 label) address h = refl
-size_words (say.LoadAddress rd label) address h = refl
-size_words (say.Call label) address h = refl
 size_words (say.Data width items) address h = cc
 size_words (say.Space count) address h = cc
 size_words (say.Align power) address h = cc
 size_words say.Nothing address h = cc
+size_words _ address h = refl
 
 size_words_at : (statement : Option Statement) (address : ℕ) → (words_at statement == 0) ≡ false
     → size_at statement address ≡ 4 * words_at statement

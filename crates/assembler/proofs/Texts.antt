@@ -1,26 +1,15 @@
 -- The disassembly of an instruction reads back as its word.
-use Rattle.std.proofs.Common.{◌≡◌, ℕ, ◌+◌, ◌%◌, ◌^◌, ◌<◌, Bool, true, false, cond, ◌==◌, ltb, List, [], ◌∷◌, Some, Ok, refl, sym, ap, subst, ◌∙◌, arith}
-use Rattle.std.proofs.lemmas.Bool.{and_from}
-use Rattle.std.proofs.lemmas.Bool.Decides.{nat_tests}
-use Rattle.image.specs.Lines.{Label}
-use Rattle.image.specs.Memory.{word_bytes}
-use Rattle.rv32i.specs.Encoding.{Encodes}
+use Rattle.assembler.proofs.Common.{[], and_from, and_then, ap, arith, Bool, branch_instruction, branch_offset, Code, Coded, coded_branch, coded_jump, cond, Condition, content_at, distance, Encodes, false, Instr, IsContent, IsPart, jump_offset, Label, List, ltb, nat_tests, Ok, one, refl, size_of, Some, Statement, subst, sym, true, word_bytes, ℕ, ◌%◌, ◌+◌, ◌<◌, ◌==◌, ◌^◌, ◌∙◌, ◌∷◌, ◌≡◌}
 use Rattle.rv32i.specs.Formats.{BType, JType}
 use Rattle.rv32i.specs.Machine.{sum}
 use Rattle.rv32i.specs.Texts.{is_plain_fence}
-use Rattle.rv32i.specs.declared.instr.Instr.{Instr}
 use Rattle.rv32i.specs.declared.instr.Instr.TheVariants as i
 use Rattle.statements.proofs.Numerals.{chosen}
 use Rattle.statements.proofs.Texts.{texts_read}
-use Rattle.statements.specs.Operations.{branch_instruction}
 use Rattle.statements.specs.Texts.{branch_at, data_word, statement_of}
-use Rattle.statements.specs.declared.operations.Condition.{Condition}
 use Rattle.statements.specs.declared.operations.Condition.TheVariants as c
-use Rattle.statements.specs.declared.statement.Statement.{Statement}
 use Rattle.statements.specs.declared.statement.Statement.TheVariants as say
 use Rattle.statements.specs.declared.statement.Target.TheVariants.{Address}
-use Rattle.assembler.specs.Contents.{and_then, coded_branch, branch_offset, Code, Coded, content_at, distance, IsContent, IsPart, coded_jump, jump_offset, one}
-use Rattle.assembler.specs.Places.{size_of}
 use Rattle.assembler.specs.Texts.{IsWordAt, TextsAreWords}
 use Rattle.assembler.proofs.Unique.{part_unique}
 

@@ -1,14 +1,6 @@
 -- A text has one image.
-use Rattle.std.proofs.Common.{◌≡◌, ℕ, ◌+◌, length, List, [], ◌∷◌, ◌++◌, Ok, Err, sym, ap, subst, ◌∙◌}
-use Rattle.image.specs.Lines.{Label}
-use Rattle.image.specs.Memory.{word_bytes}
-use Rattle.rv32i.specs.declared.instr.Instr.{Instr}
+use Rattle.assembler.proofs.Common.{[], ap, AreParts, AreWords, Code, Contained, content_at, entry_of, Err, first_address, Instr, IsPart, IsWord, Label, labels_in, length, List, Ok, Place, placed, PlacedIsUnique, Plain, rows_in, Source, subst, sym, word_bytes, ℕ, ◌++◌, ◌+◌, ◌∙◌, ◌∷◌, ◌≡◌}
 use Rattle.rv32i.proofs.Unique.{one_word}
-use Rattle.assembler.specs.Contents.{AreParts, AreWords, Code, Contained, content_at, IsPart, IsWord, Plain}
-use Rattle.assembler.specs.Placed.{placed, PlacedIsUnique}
-use Rattle.assembler.specs.Places.{entry_of, labels_in, Place, rows_in}
-use Rattle.image.specs.Memory.{first_address}
-use Rattle.assembler.specs.declared.program.Source.{Source}
 
 word_unique : (i : Instr) (a b : List ℕ) → IsWord i a → IsWord i b → a ≡ b
 word_unique i a b p q = p.low_first ∙ ap word_bytes (one_word i p.word q.word p.encodes q.encodes) ∙ sym q.low_first

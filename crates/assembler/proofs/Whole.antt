@@ -1,34 +1,12 @@
 -- A text with which nothing is wrong has an image: the one that is computed of it.
-use Rattle.std.proofs.Common.{◌≡◌, ℕ, ◌+◌, ◌%◌, ◌^◌, ◌<◌, true, ◌==◌, ◌&&◌, List, [], ◌∷◌, Option, Some, None, Result, Ok, Err, refl, ap, ◌∙◌, arith}
-use Rattle.std.specs.Prelude.{nat_lt}
-use Rattle.std.specs.Str.Lines.{lines}
-use Rattle.std.proofs.lemmas.Bool.{and_parts}
-use Rattle.std.proofs.lemmas.Bool.Decides.{nat_tests}
-use Rattle.image.specs.Lines.{Label}
-use Rattle.image.specs.Memory.{first_address, word_bytes}
+use Rattle.assembler.proofs.Common.{[], address_of, and_parts, and_then, ap, AreParts, AreWords, arith, AsmError, AsmErrorKind, AssembledIsPlaced, branch_instruction, branch_offset, call, code_bytes, Coded, coded_branch, coded_jump, Condition, Contained, content_at, content_error, content_of, distance, distance_of, end_of_line, Err, error_by, first_address, first_of, image_by, immediate_instruction, ImmediateOperation, Instr, IsContent, IsPart, IsWord, items_bytes, jump_offset, Label, labels_in, Line, line_then, LineError, lines, List, load_address, lower, lower_part, memory_end, nat_lt, nat_tests, None, Ok, one, Option, part_of, parts_of, place_error, Placed, placed, places, plain, read, read_by, read_lines, refl, Result, says_nothing, Some, source, Source, Statement, store_instruction, store_lower, StoreOperation, target_of, true, upper, upper_part, whole_error, word_bytes, wrong_in, ℕ, ◌%◌, ◌&&◌, ◌+◌, ◌<◌, ◌==◌, ◌^◌, ◌∙◌, ◌∷◌, ◌≡◌}
 use Rattle.rv32i.specs.Words.{word_of}
-use Rattle.rv32i.specs.declared.instr.Instr.{Instr}
 use Rattle.rv32i.specs.declared.instr.Instr.TheVariants as i
-use Rattle.statements.specs.Operations.{branch_instruction, immediate_instruction, lower_part, store_instruction, upper_part}
-use Rattle.statements.specs.Reading.{read}
-use Rattle.statements.specs.declared.error.LineError.{LineError}
-use Rattle.statements.specs.declared.line.Line.{Line}
-use Rattle.statements.specs.declared.operations.Condition.{Condition}
-use Rattle.statements.specs.declared.operations.ImmediateOperation.{ImmediateOperation}
-use Rattle.statements.specs.declared.operations.StoreOperation.{StoreOperation}
-use Rattle.statements.specs.declared.statement.Statement.{Statement}
 use Rattle.statements.specs.declared.statement.Statement.TheVariants as say
 use Rattle.statements.specs.declared.statement.Target.{Target}
-use Rattle.assembler.specs.Assembled.{assembled, AssembledIsPlaced, code_bytes, image_by, part_of, parts_of}
-use Rattle.assembler.specs.Contents.{and_then, AreParts, AreWords, branch_offset, call, Coded, coded_branch, coded_jump, Contained, content_at, content_error, content_of, distance, distance_of, IsContent, items_bytes, jump_offset, load_address, lower, one, plain, store_lower, target_of, address_of, upper, wrong_in, IsPart, IsWord}
-use Rattle.assembler.specs.Errors.{first_of}
-use Rattle.assembler.specs.Placed.{error_by, memory_end, placed, Placed}
-use Rattle.assembler.specs.Places.{end_of_line, labels_in, place_error, places}
-use Rattle.assembler.specs.Program.{line_then, read_by, read_lines, read_text, says_nothing, source, whole_error}
-use Rattle.assembler.specs.declared.error.AsmError.{AsmError}
-use Rattle.assembler.specs.declared.error.AsmErrorKind.{AsmErrorKind}
+use Rattle.assembler.specs.Assembled.{assembled}
+use Rattle.assembler.specs.Program.{read_text}
 use Rattle.assembler.specs.declared.error.AsmErrorKind.TheVariants as k
-use Rattle.assembler.specs.declared.program.Source.{Source}
 use Rattle.assembler.proofs.Encoded.{branch_fits, encoded, Fits, immediate_fits, IsBranchOffset, IsJumpOffset, IsRegister, store_fits}
 use Rattle.assembler.proofs.Ranges.{either, Gives, IsCoded, IsCodedAt, line_is_coded, lower_is, upper_is, where_true}
 use Rattle.assembler.proofs.Rising.{parted}
@@ -159,9 +137,7 @@ content_right labels address (say.StoreLower operation rs1 rs2 label) (h, g) =
 content_right labels address (say.LoadAddress rd label) h = load_right rd (distance_of labels address label) h
 content_right labels address (say.Call label) h = call_right (distance_of labels address label)
 content_right labels address (say.Data width items) h = plain_right (items_bytes labels width items)
-content_right labels address (say.Space count) h = refl
-content_right labels address (say.Align power) h = refl
-content_right labels address say.Nothing h = refl
+content_right labels address _ h = refl
 
 content_at_right : (labels : List Label) (address : ℕ) (statement : Option Statement) → IsCodedAt statement
     → IsRight (content_at labels address statement)

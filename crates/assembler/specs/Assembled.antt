@@ -1,8 +1,8 @@
 -- The image of a text as a function of it.
 --
 -- `Placed` checks a finished image: its bytes are parts, one for each line, each right for what the line states at its
--- address. Here the parts are made: an instruction is its word, computed, and its bytes; data is itself. A text of
--- which nothing is wrong has one image, and this is it. Of a text with which something is wrong, what is computed means
+-- address. Here the parts are made: an instruction is its word, computed, and its bytes; data is itself. A text
+-- with nothing wrong has one image, and this is it. Of a text with which something is wrong, what is computed means
 -- nothing: a statement without a content has no bytes, and a text that cannot be read has no lines.
 use Rattle.std.specs.Prelude.{◌≡◌, ℕ, ◌+◌, ◌%◌, ◌≤◌, ◌<◌, ◌^◌, All, None, List, [], ◌∷◌, ◌++◌, length, Result, Ok, Err}
 use Rattle.image.specs.Memory.{first_address, word_bytes}
@@ -34,7 +34,7 @@ parts_of labels [] = []
 parts_of labels (place ∷ others) = part_of (content_at labels place.address place.source.line.statement)
     ++ parts_of labels others
 
--- the line table of lines at their addresses, and of so many bytes
+-- the line table of lines at their addresses, for `count` bytes
 abbrev pub table_of : List Place → ℕ → Table
 table_of list count = record { rows = rows_in list; labels = labels_in list; end = first_address + count }
 

@@ -1,6 +1,6 @@
 -- What a statement puts into memory at its address.
 --
--- A name stands for the address of its label; where no line defines it, that is wrong (Undefined). A jump and a branch
+-- A name means the address of its label; where no line defines it, that is wrong (Undefined). A jump and a branch
 -- hold the distance from their own address, as a signed number of 32 bits; it has to be even, and no more than its
 -- field takes (OutOfRange): -1,048,576 to 1,048,574 for JAL, -4,096 to 4,094 for a branch. `%hi` and `%lo` are the two
 -- parts of an address; `la` and `call` are the two parts of the distance from their first instruction. Data is

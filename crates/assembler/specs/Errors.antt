@@ -25,7 +25,7 @@ of_line line BadOperand = at line k.BadOperand
 of_line line OutOfRange = at line k.OutOfRange
 of_line line NoMemory = no_memory
 
--- the first that there is
+-- the first, if any, and else the other
 abbrev pub first_of : {A : Type 0} → Option A → Option A → Option A
 first_of None other = other
 first_of (Some a) other = Some a
@@ -35,7 +35,7 @@ abbrev pub error_in : {A E : Type 0} → Result A E → Option E
 error_in (Ok a) = None
 error_in (Err error) = Some error
 
--- by its kind: an error that is reported is the one that there is, or that no memory was left, at line 0
+-- by its kind: an error that is reported is the one found, or that no memory was left, at line 0
 abbrev pub reported : AsmErrorKind → AsmError → Option AsmError → Type 0
 reported k.NoMemory error found = error.line ≡ 0
 reported k.NotUtf8 error found = found ≡ Some error
@@ -47,6 +47,6 @@ reported k.TwiceDefined error found = found ≡ Some error
 reported k.Undefined error found = found ≡ Some error
 reported k.TooLarge error found = found ≡ Some error
 
--- An error that is reported is the one that there is, or says that no memory was left.
+-- An error that is reported is the one found, or says that no memory was left.
 abbrev pub Reports : AsmError → Option AsmError → Type 0
 Reports error found = reported error.kind error found

@@ -14,6 +14,5 @@ pub mod Placed
 pub mod Assembled
 -- the disassembly of an instruction goes back to its word
 pub mod Texts
--- ---- what only private clauses cite
--- what one step of a pass does
-pub mod Steps
+-- what private clauses alone cite
+pub mod Private

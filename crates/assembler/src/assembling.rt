@@ -13,7 +13,7 @@ use crate::program::read_program;
 use image::{Bytes, FIRST_ADDRESS, Image, LineTable};
 use std::alloc::Global;
 
-/// The image of a text, for a memory of so many bytes from 0x00010000 on; or what is wrong with the text.
+/// The image of a text, for a memory of `size` bytes from 0x00010000 on; or what is wrong with the text.
 /// The image is no longer than that, and lies below 0xffffffff whatever the size. The passes go over all
 /// lines, one after the other, and the first line in error of the first pass that has one is reported.
 ///

@@ -5,7 +5,7 @@ ghost use Rattle.image.specs.Memory.{word_bytes};
 ghost use Rattle.assembler.specs.Contents as spec;
 ghost use Rattle.assembler.specs.Contents.{Code, Plain};
 ghost use Rattle.assembler.specs.Places.{size_of};
-ghost use Rattle.assembler.specs.Steps.{Appends, ReportsKind, Writes};
+ghost use Rattle.assembler.specs.Private.Steps.{Appends, ReportsKind, Writes};
 
 use crate::error::AsmErrorKind;
 use indexmap::IndexMap;

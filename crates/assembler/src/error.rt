@@ -1,7 +1,7 @@
 //! Why a text has no image.
 ghost use Rattle.std.specs.Prelude.{◌≡◌};
 ghost use Rattle.assembler.specs.Errors as spec;
-ghost use Rattle.assembler.specs.Steps as steps;
+ghost use Rattle.assembler.specs.Private.Steps as steps;
 
 use statements::LineError;
 use thiserror::Error;

@@ -5,7 +5,7 @@ ghost use Rattle.image.specs.Memory.{first_address};
 ghost use Rattle.assembler.specs.Contents.{content_at, content_error, AreParts};
 ghost use Rattle.assembler.specs.Errors.{Reports};
 ghost use Rattle.assembler.specs.Places as spec;
-ghost use Rattle.assembler.specs.Steps.{Writes};
+ghost use Rattle.assembler.specs.Private.Steps.{Writes};
 
 use crate::contents::write;
 use crate::error::{AsmError, AsmErrorKind};

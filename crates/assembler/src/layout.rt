@@ -6,7 +6,7 @@ ghost use Rattle.image.specs.Lines.{labels_of};
 ghost use Rattle.image.specs.Memory.{first_address};
 ghost use Rattle.assembler.specs.Errors.{Reports};
 ghost use Rattle.assembler.specs.Places as spec;
-ghost use Rattle.assembler.specs.Steps.{Adds, AddsOne, IsLayout, reported_kind, up_to};
+ghost use Rattle.assembler.specs.Private.Steps.{Adds, AddsOne, IsLayout, reported_kind, up_to};
 
 use crate::error::{AsmError, AsmErrorKind};
 use crate::program::Source;

@@ -4,7 +4,7 @@ ghost use Rattle.std.specs.Str.Lines.{lines};
 ghost use Rattle.statements.specs.Reading.{read};
 ghost use Rattle.assembler.specs.Errors.{error_in, no_memory, Reports};
 ghost use Rattle.assembler.specs.Program as spec;
-ghost use Rattle.assembler.specs.Steps.{after, said};
+ghost use Rattle.assembler.specs.Private.Steps.{after, said};
 
 use crate::error::{AsmError, AsmErrorKind};
 use statements::{Line, read_line};

@@ -8,7 +8,7 @@ use stepping::{Goal, Outcome, Ran, Reason, RunEnd, Runner, Tick};
 /// How many moves are recorded at most.
 const RECORDED: u32 = 65_536;
 
-/// Runs a program that was just loaded for as many moves as are recorded and back, so often, and answers the least time of a run back, in
+/// Runs a program that was just loaded for as many moves as are recorded and back, `rounds` times, and answers the least time back, in
 /// microseconds; `None`: a run has ended otherwise, or has not led back to the start, or there was none.
 pub(crate) fn least_back(
     rt: &HostRuntime,

@@ -22,7 +22,7 @@ const A0: usize = 10;
 /// What comes after a slice.
 #[derive(Clone, Copy)]
 enum Next {
-    /// The run goes on.
+    /// The run continues.
     On,
     /// The step is over, and another begins.
     Step,

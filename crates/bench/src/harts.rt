@@ -9,7 +9,7 @@ use rv32i::{Hart, Stepped};
 use std::alloc::AllocError;
 use std::io;
 
-/// How a run ended: after so many instructions, with what the last step answered.
+/// How a run ended: after this many instructions, with what the last step answered.
 #[derive(Clone, Copy)]
 struct Ending {
     retired: u64,

@@ -2,10 +2,10 @@
 //!
 //! Words: the file, what is done, and how often.
 //!
-//! - `write`: the message is read once and written so often; the last text is written.
-//! - `read`: the message is read so often.
-//! - `request`: the request is read so often.
-//! - `json`: the JSON value alone is read so often.
+//! - `write`: the message is read once and written that often; the last text is written.
+//! - `read`: the message is read that often.
+//! - `request`: the request is read that often.
+//! - `json`: the JSON value alone is read that often.
 
 use crate::End;
 use protocol::json::json_value;

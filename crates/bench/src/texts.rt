@@ -11,7 +11,7 @@ use std::{fs, io};
 /// What is done with the image.
 #[derive(Clone, Copy)]
 enum Task {
-    /// It is made so often, and its bytes are counted.
+    /// It is made this often, and its bytes are counted.
     Count(u32),
     /// Its bytes are written.
     Write,

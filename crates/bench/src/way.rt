@@ -1,9 +1,9 @@
 //! How a program is run.
 //!
-//! - `go COUNT`: without a goal, and with so many breakpoints in memory after the program, where it never comes; at most 1,024.
+//! - `go COUNT`: without a goal, and with COUNT breakpoints in memory after the program, where it never comes; at most 1,024.
 //! - `over`: by steps over source lines.
-//! - `if CONDITION`: without a goal, and with a breakpoint at the entry of which the condition is looked at and which never stops.
-//! - `back COUNT`: for as many moves as are recorded and back over all of them, so often, without breakpoints.
+//! - `if CONDITION`: without a goal, and with a breakpoint at the entry whose condition is looked at and that never stops.
+//! - `back COUNT`: for as many moves as are recorded and back over all of them, COUNT times, without breakpoints.
 
 ghost use Rattle.std.specs.Prelude.{IfOk, ◌≤◌};
 ghost use Rattle.breakpoints.specs.Stops.{CanBeSet};
@@ -21,13 +21,13 @@ const FAR: u32 = 0x0002_0000;
 /// How a program is run.
 #[derive(Clone, Copy)]
 pub(crate) enum Way<'a> {
-    /// With so many breakpoints that are never met.
+    /// With this many breakpoints that are never met.
     Go(u32),
     /// By steps over source lines.
     Over,
     /// With a breakpoint of this condition at the entry.
     If(&'a str),
-    /// Forth and back, so often.
+    /// Forth and back, this often.
     Back(u32),
 }
 
@@ -65,7 +65,7 @@ impl<'a> Way<'a> {
     }
 }
 
-// So many breakpoints where a program never comes.
+// `count` breakpoints where a program never comes.
 fn far(alloc: Global, count: u32) -> Result<Vec<BreakSpec>, AllocError>
     requires { count ≤ 1024 }
     ensures { IfOk result (λ specs. CanBeSet specs.items) }
@@ -83,7 +83,7 @@ fn far(alloc: Global, count: u32) -> Result<Vec<BreakSpec>, AllocError>
     Ok(specs)
 }
 
-// A breakpoint that never stops, since no program comes there so often.
+// A breakpoint that never stops, since no program comes there `u32::MAX` times.
 fn conditional(alloc: Global, address: u32, condition: Expr) -> Result<Vec<BreakSpec>, AllocError>
     ensures { IfOk result (λ specs. CanBeSet specs.items) }
 {

@@ -5,5 +5,5 @@ pub mod Passing
 pub mod Retries
 -- what a writer has of bytes that were to be written
 pub mod Writing
--- for private clauses alone: what `poll` is asked, and what its answer comes to
-pub mod Polling
+-- what private clauses alone cite
+pub mod Private

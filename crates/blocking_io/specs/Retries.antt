@@ -19,6 +19,6 @@ IsAfter before error false (Err stays) after = (stays ≡ error) × (after ≡ b
 IsAfter before error true (Ok nothing) after = (before < most_retries) × (after ≡ before + 1)
 IsAfter before error true (Err stays) after = (before ≡ most_retries) × (error_kind stays ≡ TimedOut) × (after ≡ before)
 
--- An error that stays, of a call that was made again so often: it is one of these, or the call was made again as often as it may be.
+-- An error that stays, of a call that was made again this often: it is one of these, or the call was made again as often as it may be.
 abbrev pub Stays : (Error → Type 0) → ℕ → Error → Type 0
 Stays fails_with count error = fails_with error ⊎ (count ≡ most_retries)

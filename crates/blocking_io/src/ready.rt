@@ -3,7 +3,7 @@ ghost use Rattle.std.specs.Prelude.{◌≡◌, ◌<◌, ◌+◌, ◌⊎◌, OnOk
 ghost use Rattle.std.specs.IoError.{error_kind, raw_os_error};
 ghost use Rattle.blocking_io.specs.Passing.{passes, IsOfWait};
 ghost use Rattle.blocking_io.specs.Retries.{most_retries, Stays};
-ghost use Rattle.blocking_io.specs.Polling.{events_of, has_ended, is_ready, Found};
+ghost use Rattle.blocking_io.specs.Private.Polling.{events_of, has_ended, is_ready, Found};
 
 use crate::retries::Retries;
 use libc::net;
@@ -65,7 +65,7 @@ pub fn can_read<S: AsRawFd>(stream: &S) -> io::Result<bool>
     can_read_within(stream, AT_ONCE)
 }
 
-/// The same, and it waits for so many milliseconds at most where a read would block. A signal may end the wait early.
+/// The same, but it waits for at most `milliseconds` where a read would block. A signal may end the wait early.
 pub fn can_read_within<S: AsRawFd>(stream: &S, milliseconds: u16) -> io::Result<bool>
     ensures err { IfErr result (λ e. passes (error_kind e) ≡ false) }
 {

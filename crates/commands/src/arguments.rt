@@ -52,7 +52,7 @@ fn printed(rt: &HostRuntime, error: clap::Error) -> Unasked {
     shown(write_text(rt.alloc(), &mut output, error))
 }
 
-// What came of help or the version.
+// How printing help or the version ended.
 fn shown(written: io::Result<()>) -> Unasked
     ensures { MatchResult written (λ _. result ≡ Unasked.Printed 0)
         (λ _. result ≡ Unasked.Failed ExitReason.ReadOrWriteFault) }

@@ -28,7 +28,7 @@ pub fn list_labels(rt: &HostRuntime, file: &str, as_json: bool) -> ExitCode {
     ended(rt, file, write_labels(rt, file, as_json))
 }
 
-// What came of a listing.
+// The status of a listing, with a line on standard error where it failed.
 fn ended(rt: &HostRuntime, file: &str, answer: Result<(), AsmFault>) -> ExitCode {
     match answer {
         Ok(()) => ExitCode::SUCCESS,

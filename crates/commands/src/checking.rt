@@ -11,7 +11,7 @@ use options::Text;
 use std::alloc::AllocError;
 use std::process::ExitCode;
 
-// What came of the check of a file.
+// How the check of a file ended.
 #[derive(Clone, Copy, Debug, PartialEq, Eq)]
 enum Checked {
     // It assembles.
@@ -41,7 +41,7 @@ impl From<AllocError> for CheckFault {
 }
 
 /// Checks the texts in files for a memory of 1 MiB, the first and the others, and writes the errors of each that has any to standard
-/// output, as JSON where that is asked for. Where standard output fails or memory runs out, no further one is checked. The status is 0 where
+/// output, as JSON where that is asked for. Where standard output fails or memory runs out, no other is checked. The status is 0 where
 /// no file has an error, and else 1; a file that can't be read has a line on standard error.
 pub fn check_files(rt: &HostRuntime, first: &str, others: &[Text], as_json: bool) -> ExitCode {
     let mut all_right = match is_right(rt, first, as_json) {

@@ -13,7 +13,7 @@ pub struct MemorySize {
 }
 
 impl MemorySize {
-    /// So many KiB, as they can be asked for.
+    /// This many KiB, as they can be asked for.
     pub fn of(kib: u32) -> MemorySize
         requires { IsOffered kib }
         ensures { result.bytes ≡ 1024 * kib }

@@ -107,10 +107,10 @@ fn tell_beginning(rt: &HostRuntime, sources: &Sources, loaded: &Loaded) -> Resul
     Ok(())
 }
 
-// A machine of which more instructions have retired is not traced: none gets to so many.
+// A machine with more retired instructions than this is not traced: none gets that far.
 const MOST_TRACED: u64 = 1 << 61;
 
-/// The last instructions that retired, at most so many.
+/// Tells the last instructions that retired, at most `count`.
 pub(crate) fn tell_trace(
     rt: &HostRuntime,
     loaded: &mut Loaded,

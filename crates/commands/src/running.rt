@@ -43,7 +43,7 @@ impl From<AllocError> for RunFault {
     }
 }
 
-/// Runs the program in files, the first and the others, of which each begins on a line of its own, and writes what it prints to standard
+/// Runs the program in files, the first and the others, each beginning on a line of its own, and writes what it prints to standard
 /// output. The status says how it ended: its exit code modulo 256, or one of those of `status_of` with lines on standard error; 1 with
 /// such a line where it was not run, or not to its end.
 pub fn run_files(rt: &HostRuntime, first: &str, others: &[Text], terms: Terms) -> ExitCode {
@@ -63,7 +63,7 @@ fn run_sources(rt: &HostRuntime, sources: &Sources, terms: Terms) -> ExitCode {
     }
 }
 
-// The same. What comes of it is a status.
+// The same, with the status as an answer.
 fn run_text(rt: &HostRuntime, sources: &Sources, terms: Terms) -> Result<u8, RunFault> {
     match load(rt.alloc(), sources.whole(), terms.memory.bytes) {
         Ok(loaded) => run_loaded(rt, sources, loaded, terms.run),
@@ -108,7 +108,7 @@ fn run_lent(
     }
 }
 
-// A machine goes on to its end, and what it prints is written.
+// A machine runs to its end, and what it prints is written.
 fn run_machine(
     rt: &HostRuntime,
     runner: &mut Runner,

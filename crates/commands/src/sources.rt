@@ -84,7 +84,7 @@ fn bytes_in<'a>(rt: &HostRuntime, file: &'a str) -> Result<Bytes, NoSources<'a>>
 }
 
 impl<'a> Sources<'a> {
-    /// The texts one after the other, of which each begins on a line of its own.
+    /// The texts one after the other; each begins on a line of its own.
     pub(crate) fn whole(&self) -> &[u8] {
         self.whole.as_slice()
     }

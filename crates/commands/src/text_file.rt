@@ -13,7 +13,7 @@ pub(crate) enum NoText {
     NoMemory,
 }
 
-/// What a file holds, of at most so many bytes as a text may have. A FIFO is read until it ends.
+/// What a file holds, at most as many bytes as a text may have. A FIFO is read until it ends.
 pub(crate) fn text_in(rt: &HostRuntime, file: &str) -> Result<Vec<u8>, NoText> {
     match read_some(rt, file) {
         Ok(text) if text.len() > TEXT_LIMIT => Err(NoText::Unreadable),

@@ -61,7 +61,7 @@ looks_on pieces waits (Ok Nothing) next =
 looks_on pieces waits (Ok End) next = cc
 looks_on pieces waits (Err fault) next = cc
 
--- a piece more, where there are so many now
+-- one piece more, `now` of them in all
 pub next_dropped : (first old new : Option (List ℕ)) (before now size : ℕ) (found : Result Received WireFault) (room : List ℕ)
     → now ≡ before + 1
     → length room ≡ size → Dropped first old (before * size) → LooksInto old new found room → Dropped first new (now * size)

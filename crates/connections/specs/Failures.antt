@@ -57,7 +57,7 @@ pub network_is_passed_over : (failed_with 64 ≡ Again) × (failed_with 71 ≡ A
 unfolding os_error_kind
 network_is_passed_over = (refl, refl, refl, refl, refl, refl, refl, refl)
 
--- whether a call that failed so is made again
+-- whether a call with this failure is made again
 abbrev pub is_made_again : Failure → Bool
 is_made_again Again = true
 is_made_again Nothing = false

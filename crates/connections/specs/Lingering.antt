@@ -25,8 +25,8 @@ abbrev pub IsNextIf : Bool → Next → Result Next Finished → Type 0
 IsNextIf true next result = result ≡ Ok next
 IsNextIf false next result = IsErr result
 
--- What is next after so many pieces, so many waits, and a look: after a piece another look, where nothing came a wait, and else the end. So
--- it is where there were as many as there may be.
+-- What is next after these numbers of pieces and waits, and a look: after a piece another look, where nothing came a wait, and else the
+-- end. It is the end too where the number of pieces or waits is at its limit.
 abbrev pub IsNext : ℕ → ℕ → Result Received WireFault → Result Next Finished → Type 0
 IsNext pieces waits (Ok (Bytes n)) result = IsNextIf (nat_lt pieces most_pieces) Look result
 IsNext pieces waits (Ok Nothing) result = IsNextIf (nat_lt waits most_waits) Wait result
@@ -45,7 +45,7 @@ waits_after waits (Ok Look) = waits
 waits_after waits (Ok Wait) = waits + 1
 waits_after waits (Err finished) = waits
 
--- A reader lost its next bytes, so many at most.
+-- A reader lost its next bytes, at most `most` of them.
 pub record Dropped (old new : Option (List ℕ)) (most : ℕ) : Type 0 where
   pub bytes : List ℕ
   pub consumed : Consumes old new bytes

@@ -34,8 +34,8 @@ pub(crate) fn failed_read(error: &io::Error) -> Failure
     }
 }
 
-/// What a failed accept comes to. A connection that was broken before it was accepted is passed over, and so is one of
-/// which the network has an error.
+/// What a failed accept comes to. A connection that was broken before it was accepted is passed over, and so is one
+/// with an error of the network.
 pub(crate) fn failed_accept(error: &io::Error) -> Failure
     ensures { result ≡ failed_accept (error_kind error.now) (raw_os_error error.now) }
 {
@@ -72,7 +72,7 @@ fn failed_by_number(number: Option<i32>) -> Failure
     }
 }
 
-/// Whether a call that failed so is made again.
+/// Whether a call with this failure is made again.
 pub(crate) fn is_made_again(failure: Failure) -> bool
     ensures { result ≡ is_made_again failure }
 {

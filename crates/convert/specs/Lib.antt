@@ -4,5 +4,5 @@
 pub mod Conversions
 -- names that mean the same elsewhere
 pub mod Tables
--- ---- for private clauses alone: how many lines are written
-pub mod Drafts
+-- what private clauses alone cite
+pub mod Private

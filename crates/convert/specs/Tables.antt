@@ -16,7 +16,7 @@ with_immediates = (codes "add", codes "addi") ∷ (codes "and", codes "andi") �
 abbrev pub the_other_way : List (List ℕ × List ℕ)
 the_other_way = (codes "sgt", codes "slt") ∷ (codes "sgtu", codes "sltu") ∷ []
 
--- letters after a backslash, and the bytes that they stand for (ISO C11, section 5.2.2)
+-- letters after a backslash, and the bytes that they mean (ISO C11, section 5.2.2)
 abbrev pub escapes : List (List ℕ × ℕ)
 escapes = (codes "n", 10) ∷ (codes "t", 9) ∷ (codes "r", 13) ∷ (codes "a", 7) ∷ (codes "b", 8) ∷ (codes "f", 12) ∷ (codes "v", 11)
     ∷ (codes "\"", 34) ∷ (codes "'", 39) ∷ (codes "\\", 92) ∷ []

@@ -18,7 +18,7 @@ enum Place {
     Star,
 }
 
-/// What of a line is code, a blank in place of each comment. `inside` says whether a comment of an earlier line goes on, and then
+/// What of a line is code, a blank in place of each comment. `inside` says whether a comment of an earlier line continues, and then
 /// whether this line leaves one open.
 pub(crate) fn code_of(
     alloc: Global,

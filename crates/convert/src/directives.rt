@@ -9,7 +9,7 @@ pub(crate) enum Directive {
     Text(Ending),
     /// Data, by this directive.
     Data(&'static str),
-    /// So many zero bytes.
+    /// A number of zero bytes.
     Space,
     /// Up to a multiple of this power of 2.
     Align,

@@ -1,6 +1,6 @@
 //! What is written of a text so far.
 ghost use Rattle.std.specs.Prelude.{◌≡◌, OnOk};
-ghost use Rattle.convert.specs.Drafts.{AddsLine, KeepsLines};
+ghost use Rattle.convert.specs.Private.Drafts.{AddsLine, KeepsLines};
 
 use crate::calls::{EXIT, is_known, lead_to_call, number_in_a7};
 use crate::comments::code_of;

@@ -138,7 +138,7 @@ fn push_jump(text: &mut Vec<u8>, rd: &[u8], rs1: &[u8]) -> Result<(), AllocError
     push_three(text, "jalr", rd, rs1, b"0")
 }
 
-// An instruction of three operands, of which the last may be a number where a register is meant.
+// An instruction of three operands; the last may be a number where a register is meant.
 fn push_of_three(
     alloc: Global,
     text: &mut Vec<u8>,

@@ -1,10 +1,10 @@
-//! What names stand for that were given a number.
+//! What names mean that were given a number.
 
 use crate::fields::is_name_byte;
 use std::alloc::{AllocError, Global};
 use std::collections::BTreeMap;
 
-// What a name stands for.
+// What a name means.
 #[derive(Clone, Copy, Debug, PartialEq, Eq)]
 enum Meaning {
     // A number.
@@ -30,7 +30,7 @@ impl Names {
         }
     }
 
-    /// From now on the name stands for this number.
+    /// From now on the name means this number.
     pub(crate) fn set_constant(
         &mut self,
         alloc: Global,
@@ -51,7 +51,7 @@ impl Names {
         Ok(())
     }
 
-    /// The number that a constant stands for. `None`: the name is none.
+    /// The number that a constant means. `None`: the name is no constant.
     pub(crate) fn constant(&self, name: &[u8]) -> Option<i64> {
         match self.meanings.get(name) {
             Some(Meaning::Constant(value)) => Some(*value),

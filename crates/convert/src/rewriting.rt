@@ -13,7 +13,7 @@ use statements::{LineError, read_line};
 use std::alloc::{AllocError, Global};
 use std::str;
 
-/// What came of a statement.
+/// What became of a statement.
 #[derive(Clone, Copy, Debug)]
 pub(crate) enum Rewritten {
     /// It was written, or means nothing here.

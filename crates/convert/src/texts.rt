@@ -5,7 +5,7 @@ ghost use Rattle.convert.specs.Tables as spec;
 
 use std::alloc::{AllocError, Global};
 
-/// The byte that a letter after a backslash stands for. `None`: it stands for none.
+/// The byte that a letter after a backslash means. `None`: it means none.
 pub(crate) fn escaped(letter: u8) -> Option<u8>
     ensures { result ≡ named spec.escapes (letter ∷ []) }
 {
@@ -38,7 +38,7 @@ enum Reading {
     Plain,
     // After a backslash.
     Backslash,
-    // After so many octal digits, and the byte that they write so far.
+    // After this many octal digits, and the byte that they write so far.
     Octal(u8, u8),
 }
 

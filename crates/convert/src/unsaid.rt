@@ -82,7 +82,7 @@ pub(crate) fn why_unsaid(name: &str) -> Option<&'static str> {
     of_kind(name)
 }
 
-// Instructions of which there are many, by how their names begin.
+// Instructions of large families, by how their names begin.
 fn of_kind(name: &str) -> Option<&'static str> {
     if name.starts_with("csr") {
         return Some(CONTROLS);

@@ -132,7 +132,7 @@ impl Sum {
     }
 }
 
-// Does what waits and binds at least so tightly, the newest first.
+// Does what waits and binds at least this tightly, the newest first.
 fn reduce(values: &mut Vec<i64>, waiting: &mut Vec<Operation>, level: u8) -> Result<(), Unvalued> {
     'waiting: while let Some(operation) = waiting.pop() {
         if operation.level() < level {

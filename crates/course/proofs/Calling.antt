@@ -1,12 +1,5 @@
 -- What is kept of an instruction undoes what it did to the calls.
-use Rattle.std.proofs.Common.{◌≡◌, ℕ, suc, zero, ◌+◌, ◌-◌, ◌^◌, ◌≤◌, ◌<◌, Bool, true, false, List, [], ◌∷◌, ◌++◌, length, take, drop, Option, Some, None, refl, sym, ap, ◌∙◌, arith}
-use Rattle.std.specs.Prelude.{slice_get}
-use Rattle.std.proofs.lemmas.List.{take_all, length-drop, length-take}
-use Rattle.circular_buffer.specs.Buffer.{keep_last}
-use Rattle.course.specs.Calls.{Kept, with_mark}
-use Rattle.course.specs.Marks.Mark.{Push, Pop}
-use Rattle.course.specs.Moves.{CanBeKept, popped, pushed, swapped, unnoted}
-use Rattle.course.specs.Words.{with_mark_if}
+use Rattle.course.proofs.Common.{[], ap, arith, Bool, CanBeKept, drop, false, keep_last, Kept, length, length-drop, length-take, List, None, Option, Pop, popped, Push, pushed, refl, slice_get, Some, suc, swapped, sym, take, take_all, true, unnoted, with_mark, with_mark_if, zero, ℕ, ◌++◌, ◌+◌, ◌-◌, ◌<◌, ◌^◌, ◌∙◌, ◌∷◌, ◌≡◌, ◌≤◌}
 
 abbrev added : Option ℕ → List ℕ → List ℕ
 added None l = l

@@ -1,16 +1,6 @@
 -- A position and its past, after a move and after one that is undone.
-use Rattle.std.proofs.Common.{◌≡◌, ℕ, ◌+◌, ◌<◌, ◌≤◌, suc, zero, List, [], ◌∷◌, length, take, drop, Some, None, Result, Ok, Err, refl, sym, ap, ◌∙◌, subst, arith}
-use Rattle.std.proofs.lemmas.List.{length-take}
-use Rattle.std.specs.Prelude.{slice_get}
-use Rattle.image.specs.Memory.{fault_at, memory_after, with_bytes}
-use Rattle.rv32i.specs.Machine.{Machine, with_register}
-use Rattle.rv32i.specs.Undoing.{undone}
-use Rattle.rv32i.specs.declared.hart.Hart.{Hart}
+use Rattle.course.proofs.Common.{[], AllAreKept, ap, arith, CanBeKept, CanBeUnmade, Course, course_of, drop, Err, fault_at, GoesBy, GoesOn, gone_back, Halts, Hart, IsOfStore, kept_of_pc, length, length-take, List, Machine, machine_in, memory_after, Move, None, Ok, past_of, Position, position_at, PutsInBlank, recorded, refl, Result, slice_get, Some, StoredInBlank, subst, suc, sym, take, Undo, undo_in, undone, UndoNeedsPage, unmade, with_bytes, with_register, zero, ℕ, ◌+◌, ◌<◌, ◌∙◌, ◌∷◌, ◌≡◌, ◌≤◌}
 use Rattle.rv32i.specs.declared.performing.Halt.{Halt}
-use Rattle.rv32i.specs.declared.undo.Undo.{Undo}
-use Rattle.course.specs.Moves.{AllAreKept, CanBeKept, CanBeUnmade, GoesBy, IsOfStore, PutsInBlank, course_of, kept_of_pc, machine_in, past_of, undo_in, unmade}
-use Rattle.course.specs.Positions.{Course, GoesOn, Halts, Position, StoredInBlank, UndoNeedsPage, gone_back, position_at, recorded}
-use Rattle.course.specs.declared.moves.Move.{Move}
 use Rattle.course.proofs.Making.{unmade_is}
 use Rattle.course.proofs.Moving.{harts_equal}
 

@@ -1,9 +1,6 @@
 -- Of the depths along marks only the last, the least and the greatest matter.
-use Rattle.std.proofs.Common.{◌≡◌, ℕ, ◌≤◌, Bool, true, false, ◌&&◌, List, [], ◌∷◌, ◌++◌, min, max, nat_lt, nat_le, refl, ap, ◌∙◌, arith}
+use Rattle.course.proofs.Common.{[], ap, arith, Bool, depth_after, depth_through, depths_through, false, List, Mark, max, min, nat_le, nat_lt, nat_tests, refl, true, ℕ, ◌&&◌, ◌++◌, ◌∙◌, ◌∷◌, ◌≡◌, ◌≤◌}
 use Rattle.std.specs.List.{list_all}
-use Rattle.std.proofs.lemmas.Bool.Decides.{nat_tests}
-use Rattle.course.specs.Marks.{Mark}
-use Rattle.course.specs.Calls.{depth_after, depth_through, depths_through}
 
 -- the least and the greatest of the depths from now on
 abbrev pub least : ℕ → List Mark → ℕ

@@ -1,11 +1,6 @@
--- One mark more: a push puts its address before the calls that are kept, of which the oldest may go, and a pop takes
+-- One mark more: a push puts its address before the calls that are kept, where the oldest may go, and a pop takes
 -- the newest away.
-use Rattle.std.proofs.Common.{◌≡◌, ℕ, ◌+◌, ◌-◌, ◌<◌, ◌≤◌, ◌⊎◌, inl, inr, Bool, true, false, ◌&&◌, List, [], ◌∷◌, ◌++◌, length, take, drop, min, max, nat_lt, nat_le, if◌then◌else◌, refl, sym, ap, ◌∙◌, arith, length-append, append-nil}
-use Rattle.std.proofs.lemmas.List.{take_all, take-append-le, drop-append-le}
-use Rattle.std.proofs.lemmas.Bool.Decides.{nat_tests}
-use Rattle.course.specs.Marks.{Mark}
-use Rattle.course.specs.Marks.Mark.{Push, Pop}
-use Rattle.course.specs.Calls.{depth_after, depth_through, depths_through, is_kept, kept_through}
+use Rattle.course.proofs.Common.{[], ap, append-nil, arith, Bool, depth_after, depth_through, depths_through, drop, drop-append-le, false, if◌then◌else◌, inl, inr, is_kept, kept_through, length, length-append, List, Mark, max, min, nat_le, nat_lt, nat_tests, Pop, Push, refl, sym, take, take-append-le, take_all, true, ℕ, ◌&&◌, ◌++◌, ◌+◌, ◌-◌, ◌<◌, ◌∙◌, ◌∷◌, ◌≡◌, ◌≤◌, ◌⊎◌}
 use Rattle.course.proofs.Depths.{least, greatest, all_above, all_within, least-start, least-end, greatest-end, least-more, greatest-more}
 
 -- whether a push is kept, by the least and the greatest depth since
@@ -140,7 +135,7 @@ first_push most before pc true e some =
 first_push most before pc false e some =
     elim (not_kept_if most before (before + 1) (before + 1) e) [ inl h ↦ absurd (omega arith) | inr h ↦ absurd (omega arith) ]
 
--- A push puts its address before the others, of which the newest are left.
+-- A push puts its address before the others, and the newest are left.
 pub kept_through-push : (most depth : ℕ) (marks : List Mark) (pc : ℕ) → 0 < most
     → kept_through most depth (marks ++ Push pc ∷ []) ≡ take most (pc ∷ kept_through most depth marks)
 kept_through-push most depth [] pc some =

@@ -1,3 +1,4 @@
+pub mod Common
 pub mod Depths
 pub mod Keeping
 pub mod Standing

@@ -1,15 +1,10 @@
 -- The last moves, the newest first, as they lie in a log.
-use Rattle.std.proofs.Common.{◌≡◌, ℕ, suc, ◌+◌, ◌-◌, ◌<◌, ◌≤◌, ◌⊎◌, inl, inr, List, [], ◌∷◌, ◌++◌, reverse, length, get_or, set, take, drop, min, Option, Some, None, refl, sym, ap, ◌∙◌, subst, arith, append_assoc, length-append}
+use Rattle.course.proofs.Common.{[], Amends, ap, append_assoc, arith, Buffer, buffer, drop, get_or, HandsOn, inl, inr, keep_last, last_item, length, length-append, length-drop, length-reverse, length-take, List, Log, logged, min, Move, moves_of, None, Option, put_last, Puts, refl, reverse, reverse-append, reverse-reverse, set, slice_get, Some, subst, suc, sym, take, take-append-drop, take-append-le, take-take, take_all, TakesBack, with_move, ℕ, ◌++◌, ◌+◌, ◌-◌, ◌<◌, ◌∙◌, ◌∷◌, ◌≡◌, ◌≤◌, ◌⊎◌}
 use Rattle.std.proofs.Math.Nat.{min_comm}
 use Rattle.std.proofs.lemmas.List.{append-nil}
-use Rattle.std.specs.Prelude.{slice_get}
 use Rattle.std.proofs.lemmas.Bool.{cases_lt}
 use Rattle.circular_buffer.proofs.Places.{slice_get-last}
 use Rattle.std.proofs.Math.Seq.{get_or-append_seam, set-append_seam, take-append_seam}
-use Rattle.std.proofs.lemmas.List.{reverse-append, reverse-reverse, length-reverse, length-drop, length-take, take-append-drop, take-append-le, take_all, take-take}
-use Rattle.circular_buffer.specs.Buffer.{Buffer, buffer, keep_last, last_item}
-use Rattle.course.specs.Moves.{Amends, HandsOn, Log, Puts, TakesBack, logged, moves_of, put_last, with_move}
-use Rattle.course.specs.declared.moves.Move.{Move}
 
 module _ {X : Type 0} where
   -- what is put behind all others comes first
@@ -116,7 +111,7 @@ room_behind made before after p =
 pub taken_back : (made : Move) (before put after : Log) → Puts made before put → TakesBack put after → moves_of after ≡ moves_of before
 taken_back made before put after p back = ap moves_of (back made p.roomy p.is) ∙ p.same
 
--- or of which more is recorded
+-- or with more recorded of it
 pub amended_moves : (made : Move) (before put after : Log) (more : Move → Move) → Puts made before put → Amends more put after
     → moves_of after ≡ with_move (more made) (moves_of before)
 amended_moves made before put after more p amends =

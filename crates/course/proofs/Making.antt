@@ -1,29 +1,14 @@
 -- What is kept of a move that was made undoes it.
-use Rattle.std.proofs.Common.{◌≡◌, ℕ, ◌+◌, ◌*◌, ◌/◌, ◌%◌, ◌≤◌, true, false, List, [], ◌∷◌, length, take, Option, Some, None, Result, Ok, Err, refl, sym, ap, ◌∙◌, subst, arith}
-use Rattle.std.specs.Prelude.{OnErr}
+use Rattle.course.proofs.Common.{[], ap, AreKnown, arith, bytes_at, called_in, CanBeKept, deed_of, destination, Effect, Entry, Err, false, fault_at, halfword_bytes, Hart, Instr, IsKeptBy, IsMade, IsOfStore, IsOver, kept, Kept, kind_of, Knows, length, List, Machine, machine_at, machine_in, machine_of, MemFault, memory_after, Move, None, noted, Ok, OnErr, Option, Performs, placed, Position, position_at, refl, Result, Some, stored, stored_at, stores_in, subst, sum, sym, take, true, Undo, undo_in, undo_of, undone, unmade, unnoted, value, with_bytes, with_called, word_bytes, ℕ, ◌%◌, ◌*◌, ◌+◌, ◌/◌, ◌∙◌, ◌∷◌, ◌≡◌, ◌≤◌}
 use Rattle.std.specs.Int.{to_le_bytes, w32}
-use Rattle.image.specs.Memory.{bytes_at, fault_at, halfword_bytes, memory_after, with_bytes, word_bytes}
-use Rattle.image.specs.declared.fault.MemFault.{MemFault}
-use Rattle.rv32i.specs.Machine.{Effect, Machine, machine_of, sum, value}
-use Rattle.rv32i.specs.declared.instr.Instr.{Instr}
 use Rattle.rv32i.specs.declared.instr.Instr.TheVariants.{Sb, Sh, Sw}
-use Rattle.rv32i.specs.Steps.{Performs}
-use Rattle.rv32i.specs.Undoing.{destination, stored, undone}
-use Rattle.rv32i.specs.declared.hart.Hart.{Hart}
-use Rattle.rv32i.specs.declared.undo.Undo.{Undo}
 use Rattle.rv32i.specs.declared.stepped.Stepped.TheVariants.{Retired}
 use Rattle.rv32i.proofs.Undoing.{BackFrom, undoes}
-use Rattle.course.specs.Calls.{Kept, noted}
-use Rattle.course.specs.Moves.{CanBeKept, IsKeptBy, IsMade, IsOfStore, IsOver, called_in, kept, machine_in, placed, undo_in, undo_of, unmade, unnoted, with_called}
 use Rattle.course.specs.declared.calls.Called.{Called}
 use Rattle.course.specs.declared.calls.Called.TheVariants.{Nothing, Pushed, PushedOut, Popped, PoppedFrom, Swapped, SwappedFrom}
-use Rattle.course.specs.Positions.{Position, machine_at, position_at}
-use Rattle.course.specs.Words.{AreKnown, Knows, deed_of, kind_of, stored_at, stores_in}
-use Rattle.course.specs.declared.entry.Entry.{Entry}
 use Rattle.course.specs.declared.moves.Deed.{Deed}
 use Rattle.course.specs.declared.moves.Kind.{Kind}
 use Rattle.course.specs.declared.moves.Kind.TheVariants as kind
-use Rattle.course.specs.declared.moves.Move.{Move}
 use Rattle.course.proofs.Moving.{decoded_at, harts_equal, retires}
 use Rattle.course.proofs.Remembering.{known_from, known_write}
 
@@ -155,31 +140,16 @@ machine_back p q at next e move kept performs =
 called_undo : (called : Called) (move : Move) (m : Machine) → called_in move ≡ Nothing → undo_in move ≡ undo_of move 0 0
     → undone (undo_in (with_called called move)) m ≡ undone (undo_in move) m
 called_undo Nothing move m none plain = refl
-called_undo Pushed move m none plain = ap (λ (u : Undo). undone u m) (sym plain)
-called_undo (PushedOut a) move m none plain = ap (λ (u : Undo). undone u m) (sym plain)
-called_undo Popped move m none plain = ap (λ (u : Undo). undone u m) (sym plain)
-called_undo (PoppedFrom a) move m none plain = ap (λ (u : Undo). undone u m) (sym plain)
-called_undo Swapped move m none plain = ap (λ (u : Undo). undone u m) (sym plain)
-called_undo (SwappedFrom a) move m none plain = ap (λ (u : Undo). undone u m) (sym plain)
+called_undo _ move m none plain = ap (λ (u : Undo). undone u m) (sym plain)
 
 called_as : (called : Called) (move : Move) → called_in move ≡ Nothing → called_in (with_called called move) ≡ called
 called_as Nothing move none = none
-called_as Pushed move none = refl
-called_as (PushedOut a) move none = refl
-called_as Popped move none = refl
-called_as (PoppedFrom a) move none = refl
-called_as Swapped move none = refl
-called_as (SwappedFrom a) move none = refl
+called_as _ move none = refl
 
 -- nor does it put bytes back
 called_place : (called : Called) (move : Move) (q : Position) → IsOfStore move q → IsOfStore (with_called called move) q
 called_place Nothing move q h = h
-called_place Pushed move q h = λ some. (let none : 1 ≤ 0 = some in absurd (omega (arith, none)))
-called_place (PushedOut a) move q h = λ some. (let none : 1 ≤ 0 = some in absurd (omega (arith, none)))
-called_place Popped move q h = λ some. (let none : 1 ≤ 0 = some in absurd (omega (arith, none)))
-called_place (PoppedFrom a) move q h = λ some. (let none : 1 ≤ 0 = some in absurd (omega (arith, none)))
-called_place Swapped move q h = λ some. (let none : 1 ≤ 0 = some in absurd (omega (arith, none)))
-called_place (SwappedFrom a) move q h = λ some. (let none : 1 ≤ 0 = some in absurd (omega (arith, none)))
+called_place _ move q h = λ some. (let none : 1 ≤ 0 = some in absurd (omega (arith, none)))
 
 of_store : (p : Position) (at : ℕ) (e : Entry) (move : Move) → Knows p.memory e → e.pc ≡ at → IsKeptBy move e.instr (machine_at at p)
     → IsOfStore move (position_at at p)
@@ -197,7 +167,7 @@ makes p now q at next e move is fits knows named kept performs calls pc same = r
   kept = subst (λ (x : Position). CanBeKept x.calls) is fits;
 }
 
--- a jump, of which it is kept what it did to the calls, too
+-- a jump, which keeps what it did to the calls, too
 pub jumps : (p now q : Position) (at next : ℕ) (e : Entry) (move : Move) (called : Called) → stores_in e.instr ≡ false
     → p ≡ now → CanBeKept p.calls → Knows p.memory e → e.pc ≡ at
     → IsKeptBy move e.instr (machine_at at p) → Performs e.instr (machine_at at p) (Ok next) q.hart.x q.memory

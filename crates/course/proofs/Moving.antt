@@ -1,14 +1,6 @@
 -- An instruction that was decoded is carried out: that is the move.
-use Rattle.std.proofs.Common.{◌≡◌, ℕ, ◌+◌, ◌*◌, ◌/◌, ◌%◌, ◌≤◌, Bool, true, false, cond, eqb, not, ◌&&◌, List, [], ◌∷◌, length, get_or, Option, Some, None, Ok, Err, refl, sym, ap, ◌∙◌, arith, subst}
+use Rattle.course.proofs.Common.{[], ap, AreKnown, arith, Bool, branches, calls, cond, Effect, effect_of, Entry, eqb, Err, false, fault_at, forgotten, get_or, halfword_bytes, Halts, Hart, Instr, is_link, is_plain, IsDecodedAtPc, IsFetched, IsMove, IsReady, jalr_marks, jumps, Kept, Knows, Lacks, length, linked, List, loads_unless, Machine, machine_at, MemFault, Misaligned, NoMemory as NoRoom, None, not, noted, Ok, Option, Outside, Performs, place_of, Pop, pops_in, Position, Push, pushes_in, refl, retired, Retires, Says, signed, slice_index, Some, Store, store_of, stored_at, stores_in, stores_unless, subst, sum, sym, trapped, Traps, true, value, with_bytes, with_mark_if, with_marks, word_at, word_bytes, ℕ, ◌%◌, ◌&&◌, ◌*◌, ◌+◌, ◌/◌, ◌∙◌, ◌∷◌, ◌≡◌, ◌≤◌}
 use Rattle.std.proofs.Math.Nat.{ℕ_set}
-use Rattle.std.specs.Prelude.{slice_index}
-use Rattle.image.specs.Memory.{fault_at, halfword_bytes, with_bytes, word_at, word_bytes}
-use Rattle.image.specs.declared.fault.MemFault.{MemFault}
-use Rattle.image.specs.declared.fault.MemFault.TheVariants.{Misaligned, Outside, NoMemory as NoRoom}
-use Rattle.rv32i.specs.Machine.{Effect, IsDecodedAtPc, IsMove, Machine, Store, branches, calls, effect_of, jumps, linked, loads_unless, retired, signed, store_of, stores_unless, sum, trapped, value}
-use Rattle.rv32i.specs.Steps.{Lacks, Performs}
-use Rattle.rv32i.specs.declared.hart.Hart.{Hart}
-use Rattle.rv32i.specs.declared.instr.Instr.{Instr}
 use Rattle.rv32i.specs.declared.instr.Instr.TheVariants.{Jal, Jalr, Beq, Bne, Blt, Bge, Bltu, Bgeu, Lb, Lh, Lw, Lbu, Lhu, Sb, Sh, Sw, Ecall, Ebreak}
 use Rattle.rv32i.specs.declared.performing.Halt.{Halt}
 use Rattle.rv32i.specs.declared.performing.Halt.TheVariants.{Stopped, NoMemory, Calls, Breaks}
@@ -17,12 +9,6 @@ use Rattle.rv32i.specs.declared.stepped.Cause.TheVariants.{JumpMisaligned, Unkno
 use Rattle.rv32i.specs.declared.stepped.Stepped.TheVariants.{Retired, Printed, Exit, Trap}
 use Rattle.rv32i.proofs.Keeps.{step_keeps}
 use Rattle.rv32i.proofs.Moves.{moves}
-use Rattle.course.specs.Calls.{Kept, noted, with_marks}
-use Rattle.course.specs.Marks.{is_link, jalr_marks}
-use Rattle.course.specs.Marks.Mark.{Push, Pop}
-use Rattle.course.specs.Positions.{Halts, IsFetched, Position, Retires, Says, machine_at}
-use Rattle.course.specs.Words.{AreKnown, IsReady, Knows, Traps, forgotten, is_plain, place_of, pops_in, pushes_in, stored_at, stores_in, with_mark_if}
-use Rattle.course.specs.declared.entry.Entry.{Entry}
 use Rattle.course.proofs.Others.{aligned_there, fetched}
 use Rattle.course.proofs.Remembering.{known_forgotten, known_from, known_written, knows_of}
 

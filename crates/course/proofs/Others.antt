@@ -1,14 +1,10 @@
 -- Words that a write does not touch.
-use Rattle.std.proofs.Common.{◌≡◌, ℕ, zero, suc, ◌+◌, ◌-◌, ◌%◌, ◌≤◌, ◌⊎◌, inl, inr, Bool, true, false, eqb, leb, List, [], ◌∷◌, ◌++◌, length, take, drop, Option, Some, None, Ok, refl, sym, ap, ◌∙◌, arith, length-append, length-drop, append_assoc}
-use Rattle.std.proofs.lemmas.Bool.Decides.{nat_tests}
-use Rattle.std.proofs.lemmas.List.{length-take-le, take-append-drop, take-append-le, drop-append-le, drop_at}
-use Rattle.image.specs.Memory.{bytes_at, fault_at, little_endian, unless_fault, with_bytes, word_at}
-use Rattle.image.specs.declared.fault.MemFault.{MemFault}
-use Rattle.image.specs.declared.fault.MemFault.TheVariants.{Misaligned, Outside}
+use Rattle.course.proofs.Common.{[], ap, append_assoc, arith, Bool, bytes_at, drop, drop-append-le, drop_at, eqb, false, fault_at, inl, inr, leb, length, length-append, length-take-le, List, little_endian, MemFault, Misaligned, nat_tests, None, Ok, Option, Outside, refl, Some, suc, sym, take, take-append-drop, take-append-le, true, unless_fault, with_bytes, word_at, zero, ℕ, ◌%◌, ◌++◌, ◌+◌, ◌-◌, ◌∙◌, ◌∷◌, ◌≡◌, ◌≤◌, ◌⊎◌}
+use Rattle.std.proofs.Common.{length-drop}
 
 -- ---- where bytes lie
 
--- so many bytes from an address on lie in memory
+-- `count` bytes from an address on lie in memory
 pub record Lies (m : List ℕ) (a count : ℕ) : Type 0 where
   pub low : 65536 ≤ a
   pub high : a + count ≤ 65536 + length m

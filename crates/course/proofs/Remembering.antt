@@ -1,13 +1,5 @@
 -- Words that are remembered.
-use Rattle.std.proofs.Common.{◌≡◌, ◌≢◌, ℕ, ◌+◌, ◌*◌, ◌/◌, ◌%◌, ◌<◌, ◌≤◌, ◌⊎◌, inl, inr, Bool, true, false, eqb, ltb, Decides, List, [], ◌∷◌, length, get_or, Option, Some, None, Ok, Err, refl, sym, ap, ◌∙◌, arith, subst}
-use Rattle.std.proofs.lemmas.Bool.Decides.{Decides-eqb, not_from_Decides, nat_tests}
-use Rattle.std.proofs.lemmas.List.{get_or-set_same, get_or-set_other, length-set, get_or_default}
-use Rattle.std.specs.Prelude.{slice_set}
-use Rattle.image.specs.Memory.{WritesOrLacks, fault_at, memory_after, unless_fault, with_bytes}
-use Rattle.image.specs.declared.fault.MemFault.{MemFault}
-use Rattle.image.specs.declared.fault.MemFault.TheVariants.{Misaligned, Outside, NoMemory}
-use Rattle.course.specs.Words.{AreKnown, Knows, Spares, elsewhere, forgotten, nothing_at, place_of}
-use Rattle.course.specs.declared.entry.Entry.{Entry}
+use Rattle.course.proofs.Common.{[], ap, AreKnown, arith, Bool, Decides, Decides-eqb, elsewhere, Entry, eqb, Err, false, fault_at, forgotten, get_or, get_or-set_other, get_or-set_same, get_or_default, inl, inr, Knows, length, length-set, List, ltb, MemFault, memory_after, Misaligned, nat_tests, NoMemory, None, not_from_Decides, nothing_at, Ok, Option, Outside, place_of, refl, slice_set, Some, Spares, subst, sym, true, unless_fault, with_bytes, WritesOrLacks, ℕ, ◌%◌, ◌*◌, ◌+◌, ◌/◌, ◌<◌, ◌∙◌, ◌∷◌, ◌≡◌, ◌≢◌, ◌≤◌, ◌⊎◌}
 use Rattle.course.proofs.Others.{aligned_there, fetched, lies_there, no_bytes, other_word}
 
 -- ---- places
@@ -124,7 +116,7 @@ known_forgotten m from at es c al = by (ltb place (length es)) refl (eqb was.pc 
 
 -- ---- bytes are written
 
--- the words of which none is remembered have all the bytes
+-- where none of the words that they touch is remembered
 pub known_written : (m : List ℕ) (al at from to : ℕ) (bytes : List ℕ) (es : List Entry) → AreKnown m from to es
     → fault_at m al at (length bytes) ≡ None → from ≤ at → at + length bytes ≤ to → 1 ≤ length bytes → from % 4 ≡ 0
     → AreKnown (with_bytes m at bytes) 0 0 es

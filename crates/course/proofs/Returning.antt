@@ -1,10 +1,6 @@
 -- Calls that returned leave no trace.
-use Rattle.std.proofs.Common.{◌≡◌, ℕ, zero, suc, ◌+◌, ◌-◌, ◌≤◌, List, [], ◌∷◌, ◌++◌, length, take, drop, min, max, refl, sym, ap, subst, ◌∙◌, arith}
-use Rattle.std.proofs.lemmas.List.{take_all, length-take, length-drop}
+use Rattle.course.proofs.Common.{[], ap, arith, calls_of, depth_of, drop, Kept, length, length-drop, length-take, List, Mark, marks_at, marks_of, max, min, nothing_kept, Pop, Push, refl, Retired, subst, suc, sym, take, take_all, with_mark, with_marks, zero, ℕ, ◌++◌, ◌+◌, ◌-◌, ◌∙◌, ◌∷◌, ◌≡◌, ◌≤◌}
 use Rattle.std.proofs.lemmas.Grind.{flat_map-append}
-use Rattle.course.specs.Marks.{Mark, Retired, marks_at, marks_of}
-use Rattle.course.specs.Marks.Mark.{Push, Pop}
-use Rattle.course.specs.Calls.{Kept, calls_of, depth_of, nothing_kept, with_mark, with_marks}
 use Rattle.course.specs.Laws.{Returned, ReturnsKeepCalls, ReturnsKeepDepth, height_of, marks_in}
 use Rattle.course.specs.Laws.Returned.{Done, Called}
 use Rattle.course.proofs.Standing.{Keeps, marks_keep}

@@ -1,10 +1,6 @@
--- What is kept stands for all that retired.
-use Rattle.std.proofs.Common.{◌≡◌, ℕ, ◌+◌, List, [], ◌∷◌, ◌++◌, take, drop, refl, sym, ap, subst, ◌∙◌, arith, append-nil, append_assoc}
+-- What is kept represents all that retired.
+use Rattle.course.proofs.Common.{[], ap, append-nil, append_assoc, arith, depth_after, depth_through, drop, Instr, Kept, kept_through, List, Mark, marks_at, marks_of, noted, nothing_kept, Pop, Push, refl, Retired, StandsFor, subst, sym, take, with_mark, with_marks, with_retired, ℕ, ◌++◌, ◌+◌, ◌∙◌, ◌∷◌, ◌≡◌}
 use Rattle.std.proofs.lemmas.Grind.{flat_map-append}
-use Rattle.rv32i.specs.declared.instr.Instr.{Instr}
-use Rattle.course.specs.Marks.{Mark, Retired, marks_at, marks_of}
-use Rattle.course.specs.Marks.Mark.{Push, Pop}
-use Rattle.course.specs.Calls.{Kept, StandsFor, depth_after, depth_through, kept_through, noted, nothing_kept, with_mark, with_marks, with_retired}
 use Rattle.course.proofs.Depths.{depth_through-more}
 use Rattle.course.proofs.Keeping.{kept_through-push, kept_through-pop}
 
@@ -57,7 +53,7 @@ noted_stands kept retired instr pc h =
     (λ (marks : List Mark). Keeps (noted kept instr pc) marks) (sym (marks_of-more retired instr pc)) keeps in
     record { depth = all.depth; calls = all.calls }
 
--- what was noted, as a value that is equal to it, stands for it
+-- what was noted, as a value that is equal to it, represents it
 pub notes : (kept new : Kept) (instr : Instr) (pc : ℕ) → new ≡ noted kept instr pc → (retired : List Retired) → StandsFor kept retired
     → StandsFor new (with_retired retired instr pc)
 notes kept new instr pc e retired h =

@@ -84,7 +84,7 @@ pub record Kept : Type 0 where
 abbrev pub nothing_kept : Kept
 nothing_kept = record { depth = 0; calls = [] }
 
--- what is kept after a mark: a push puts its address before the others, of which the oldest may go, and a pop takes the
+-- what is kept after a mark: a push puts its address before the others, where the oldest may go, and a pop takes the
 -- newest away
 abbrev pub with_mark : Kept → Mark → Kept
 with_mark kept (Push pc) = record { depth = kept.depth + 1; calls = take 256 (pc ∷ kept.calls) }
@@ -103,7 +103,7 @@ noted kept instr pc = with_marks kept (marks_at instr pc)
 abbrev pub with_retired : List Retired → Instr → ℕ → List Retired
 with_retired retired instr pc = retired ++ record { instr = instr; pc = pc } ∷ []
 
--- What is kept stands for all that retired: the depth and the calls are those of the program.
+-- What is kept represents all that retired: the depth and the calls are those of the program.
 pub record StandsFor (kept : Kept) (retired : List Retired) : Type 0 where
   pub depth : kept.depth ≡ depth_of retired
   pub calls : kept.calls ≡ calls_of retired

@@ -32,7 +32,7 @@ abbrev pub ReturnsKeepDepth : Type 0
 ReturnsKeepDepth = (before since : List Retired) (calls : Returned) → marks_of since ≡ marks_in calls
     → depth_of (before ++ since) ≡ depth_of before
 
--- Where the marks since are those of calls that returned, the calls are those of before, as many of the newest as were never more than 256 deep.
+-- Where the marks since are those of calls that returned, the calls are as before, as many of the newest as were never more than 256 deep.
 abbrev pub ReturnsKeepCalls : Type 0
 ReturnsKeepCalls = (before since : List Retired) (calls : Returned) → marks_of since ≡ marks_in calls
     → calls_of (before ++ since) ≡ take (256 - height_of calls) (calls_of before)

@@ -8,7 +8,5 @@ pub mod Calls
 pub mod Laws
 -- a hart in its memory, with the calls of its program, and what an instruction makes of it
 pub mod Positions
--- What follows is cited by private clauses alone: words that are remembered decoded.
-pub mod Words
--- what undoes a move
-pub mod Moves
+-- what private clauses alone cite
+pub mod Private

@@ -2,11 +2,11 @@
 --
 -- The instruction at an address *retires*, and then the next one is at another address, the registers and memory are as
 -- the move says, and the calls have its marks; or it *halts*, and nothing has changed: it traps, it asks for the
--- environment, or it stores into a page of which each byte is 0 and for which no memory was left.
+-- environment, or it stores into a page of zeros for which no memory was left.
 --
 -- Where a program runs, the hart's own pc is not looked at: the address is told, and the next one is answered.
 --
--- A *course* is such a position with its past: those at which the last instructions were that retired, the newest
+-- A *course* is such a position with its past: those before the last instructions that retired, the newest
 -- first. 65,536 are kept at most, so that a debugger can go back.
 use Rattle.std.specs.Prelude.{◌≡◌, ℕ, ◌+◌, ◌%◌, ◌<◌, ◌≤◌, if◌then◌else◌, List, [], ◌∷◌, length, take, Option, Some}
 use Rattle.std.specs.Prelude.{None, Result, Ok, Err, MatchResult}
@@ -70,7 +70,7 @@ pub record Retires (at next : ℕ) (before after : Position) : Type 0 where
   pub calls : after.calls ≡ noted before.calls instr at
   pub pc : after.hart.pc ≡ before.hart.pc
 
--- what it says that an instruction, or none, halts: it traps; it stores into a page of which each byte is 0, for which no
+-- what it says that an instruction, or none, halts: it traps; it stores into a page of zeros for which no
 -- memory was left; it is an environment call, or EBREAK, and was not carried out
 abbrev pub Says : Halt → Option Instr → Machine → Type 0
 Says (Stopped cause) instr m = IsMove m (trapped cause m)
@@ -84,7 +84,7 @@ pub record Halts (at : ℕ) (halt : Halt) (p : Position) : Type 0 where
   pub fetched : IsFetched (machine_at at p) instr
   pub says : Says halt instr (machine_at at p)
 
--- what comes of the instruction at an address: it retires and the next one is answered, or it halts, and nothing has
+-- what the instruction at an address does: it retires and the next one is answered, or it halts, and nothing has
 -- changed
 abbrev pub Goes : ℕ → Position → Result ℕ Halt → Position → Type 0
 Goes at before (Ok next) after = Retires at next before after
@@ -96,12 +96,12 @@ Goes at before (Err halt) after = Halts at halt before × (after ≡ before)
 abbrev pub recorded : ℕ → Course → List Position
 recorded at c = take 65536 (position_at at c.now ∷ c.past)
 
--- what comes of the instruction at an address: its move is recorded, if it retires
+-- what the instruction at an address does: its move is recorded, if it retires
 abbrev pub GoesOn : ℕ → Course → Result ℕ Halt → Course → Type 0
 GoesOn at before (Ok next) after = Retires at next before.now after.now × (after.past ≡ recorded at before)
 GoesOn at before (Err halt) after = Halts at halt before.now × (after ≡ before)
 
--- the past after a move of which the hart answers this
+-- the past after a move to which the hart gives this answer
 abbrev pub past_after : Result Stepped AllocError → Course → List Position
 past_after answer c = if retires answer then recorded c.now.hart.pc c else c.past
 
@@ -120,8 +120,7 @@ gone_back c = undone_to c.past c
 
 -- ---- memory for a move back
 
--- The instruction at pc stored, and one of the bytes over which it stored lies in a page of which each byte is 0 in this
--- memory.
+-- The instruction at pc stored, and one of the bytes over which it stored lies in a page of zeros in this memory.
 pub record StoredInBlank (before : Machine) (memory : List ℕ) : Type 0 where
   pub instr : Instr
   pub decoded : IsDecodedAtPc before (Some instr)

@@ -1,7 +1,7 @@
 //! The calls of a running program.
 
 ghost use Rattle.std.specs.Prelude.{◌≡◌, ◌-◌, ◌^◌, ◌<◌, ◌≤◌, ◌==◌, List, [], length, slice_get, IfOk};
-ghost use Rattle.course.specs.Moves.{CanBeKept, popped, pushed, swapped, unnoted};
+ghost use Rattle.course.specs.Private.Moves.{CanBeKept, popped, pushed, swapped, unnoted};
 ghost use Rattle.course.specs.Marks.{Retired, is_link, jalr_marks};
 ghost use Rattle.course.specs.Marks.Mark.{Pop, Push};
 ghost use Rattle.course.specs.Calls.{StandsFor, calls_of, depth_of, noted, nothing_kept, with_mark, with_marks, with_retired};
@@ -15,7 +15,7 @@ use std::marker::Model;
 const KEPT: usize = 256;
 
 /// The calls of a running program, which a debugger shows as its call stack. The program is the
-/// instructions that retired since the start, each of which is noted once. The registers of a jump say
+/// instructions that retired since the start, each noted once. The registers of a jump say
 /// whether it calls or returns (RISC-V Unprivileged ISA 20191213, section 2.5, table 2.1). A contract
 /// sees the depth and the addresses of the calls kept, newest first.
 #[derive(Drop)]
@@ -93,7 +93,7 @@ impl Called {
 }
 
 impl Calls {
-    /// The calls of a program of which no instruction retired yet. It takes all the memory that it will
+    /// The calls of a program before its first instruction retires. It takes all the memory that it will
     /// ever need. `Err`: no memory was left.
     pub fn new(alloc: Global) -> Result<Calls, AllocError>
         ensures kept { IfOk result (λ calls. calls ≡ nothing_kept) }
@@ -117,7 +117,7 @@ impl Calls {
 
     /// Notes an instruction that retired, and its address: a call is kept, and a return takes away the
     /// newest one. A return at depth 0 does nothing. Of more than 256 calls the oldest are kept no longer;
-    /// who undoes such a call (`Course::go_back`) has the oldest back. It takes no memory. The depth is
+    /// undoing such a call (`Course::go_back`) brings the oldest back. It takes no memory. The depth is
     /// below 2^64 - 1 before it.
     #[inline]
     pub fn note(&mut self, instr: &Instr, pc: u32)

@@ -15,8 +15,8 @@ use rv32i::{Halt, Hart, Stepped};
 use std::alloc::{AllocError, Global};
 use std::marker::Model;
 
-/// A hart in its memory, and the calls of the program that it runs, with what undoes the last moves, of which 65,536 are recorded at
-/// most. A contract sees the position now, and those before these moves, the newest first.
+/// A hart in its memory, and the calls of the program that it runs, with what undoes the last moves: at most 65,536 are
+/// recorded. A contract sees the position now, and those before these moves, the newest first.
 #[derive(Drop)]
 pub struct Course {
     machine: Machine,
@@ -24,7 +24,7 @@ pub struct Course {
 }
 
 impl Model for Course {
-    ghost use Rattle.course.specs.Moves.{AllAreKept, course_of, moves_of};
+    ghost use Rattle.course.specs.Private.Moves.{AllAreKept, course_of, moves_of};
     ghost use Rattle.course.specs.Positions as positions;
 
     ghost Value = { positions.Course };
@@ -35,7 +35,7 @@ impl Model for Course {
 }
 
 impl Course {
-    /// A hart in its memory, of whose program no instruction retired yet. `Err`: no memory was left.
+    /// A hart in its memory, before the first instruction of its program retires. `Err`: no memory was left.
     pub fn new(alloc: Global, hart: Hart, memory: Memory) -> Result<Course, AllocError>
         ensures { IfOk result (λ course. course ≡ start_of hart memory) }
     {
@@ -46,7 +46,7 @@ impl Course {
 
     /// The instruction at an address. `Ok`: it retired, its move is recorded, and the next one is at this
     /// address. `Err`: it did not, for this reason, and nothing has changed. The hart's pc is not looked at,
-    /// and stays: who runs many instructions keeps the pc apart meanwhile, and sets it at the end. The depth
+    /// and stays: a caller that runs many instructions keeps the pc apart meanwhile, and sets it at the end. The depth
     /// of the calls is below 2^64 - 1 before it.
     #[inline(always)]
     pub fn quick(&mut self, pc: u32) -> Result<u32, Halt>
@@ -82,7 +82,7 @@ impl Course {
     }
 
     /// Undoes the newest of the recorded moves, if there is one. `Err`: it was a store, no memory was left for a page
-    /// of which each byte is 0, into which a byte is put back, and nothing has changed.
+    /// of zeros into which a byte is put back, and nothing has changed.
     pub fn go_back(&mut self) -> Result<(), AllocError>
         ensures ok { OnOk result (self.new ≡ gone_back self.old) }
         ensures err { OnErr result (self.new ≡ self.old) }
@@ -142,8 +142,8 @@ impl Course {
     }
 
     /// Gives the hart another pc: where it is after instructions in a row, which is the address that `quick` answered
-    /// last. The recorded moves stay, whatever the address is; who goes on elsewhere calls `set_hart`, which forgets
-    /// them.
+    /// last. The recorded moves stay, whatever the address is; a caller that continues elsewhere calls `set_hart`, which
+    /// forgets them.
     #[inline]
     pub fn set_pc(&mut self, pc: u32)
         ensures { self.new ≡ record { now = position_at pc self.old.now; past = self.old.past } }

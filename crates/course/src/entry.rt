@@ -2,10 +2,9 @@
 
 ghost use Rattle.std.specs.Prelude.{◌≡◌, slice_index, true};
 ghost use Rattle.rv32i.specs.Machine.{sum};
-ghost use Rattle.rv32i.specs.Undoing as undoing;
 ghost use Rattle.rv32i.specs.Undoing.{stored};
-ghost use Rattle.course.specs.Moves.{AreOver, IsOver};
-ghost use Rattle.course.specs.Words.{Knows, entry_of, is_plain, pops_in, pushes_in, stored_at, stores_in};
+ghost use Rattle.course.specs.Private.Moves.{AreOver, IsOver};
+ghost use Rattle.course.specs.Private.Words.{Knows, entry_of, is_plain, pops_in, pushes_in, stored_at, stores_in};
 
 use crate::calls::is_link;
 use crate::moves::Deed;
@@ -103,7 +102,7 @@ impl Entry {
     }
 }
 
-// The bytes over which an instruction stores, of which as many count as it stores; where it traps,
+// The bytes over which an instruction stores: only as many count as it stores; where it traps,
 // anything. Most stores are of words.
 #[inline(always)]
 fn four_over(x: &[u32; 32], instr: &Instr, memory: &Memory) -> [u8; 4]

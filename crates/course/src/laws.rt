@@ -2,7 +2,7 @@
 
 ghost use Rattle.course.specs.Laws.{ReturnsKeepCalls, ReturnsKeepDepth};
 
-/// Calls that returned leave the depth as it was. Of the calls of before they leave those that were
+/// Calls that returned leave the depth as it was. Of the earlier calls they leave those that were
 /// never forgotten meanwhile, and no other comes back.
 pub fn returns_undo_calls()
     ensures depth { ReturnsKeepDepth }

@@ -4,9 +4,9 @@ ghost use Rattle.std.specs.Prelude.{◌≡◌, ◌-◌, ◌^◌, ◌<◌, ◌≤
 ghost use Rattle.image.specs.Memory.{WritesOrLacks};
 ghost use Rattle.rv32i.specs.Steps.{settles};
 ghost use Rattle.course.specs.Marks.Mark.{Pop, Push};
-ghost use Rattle.course.specs.Moves.{CanBeKept, CanBeUnmade, GoesBy, NotesJump, PutsInBlank, moves_of, undo_in, unmade};
+ghost use Rattle.course.specs.Private.Moves.{CanBeKept, CanBeUnmade, GoesBy, NotesJump, PutsInBlank, moves_of, undo_in, unmade};
 ghost use Rattle.course.specs.Positions.{begun, position_at};
-ghost use Rattle.course.specs.Words.{with_mark_if};
+ghost use Rattle.course.specs.Private.Words.{with_mark_if};
 
 use crate::calls::Calls;
 use crate::entry::{Entry, stored_at};
@@ -36,8 +36,8 @@ impl Model for Machine {
 
     ghost Value = { Position };
 
-    ghost use Rattle.course.specs.Moves.{CanBeKept};
-    ghost use Rattle.course.specs.Words.{IsCached};
+    ghost use Rattle.course.specs.Private.Moves.{CanBeKept};
+    ghost use Rattle.course.specs.Private.Words.{IsCached};
 
     ghost view = { λ c. record { hart = c.hart; memory = c.memory; calls = c.calls } };
 
@@ -46,7 +46,7 @@ impl Model for Machine {
 }
 
 impl Machine {
-    /// A hart in its memory, of whose program no instruction retired yet. `Err`: no memory was left.
+    /// A hart in its memory, before the first instruction of its program retires. `Err`: no memory was left.
     pub fn new(alloc: Global, hart: Hart, memory: Memory) -> Result<Machine, AllocError>
         ensures { IfOk result (λ machine. machine ≡ begun hart memory) }
     {
@@ -190,7 +190,7 @@ impl Machine {
     }
 }
 
-// Notes a jump that calls or returns, or does both, in this order, of whose move the rest is recorded.
+// Notes a jump that returns or calls, or does both, in this order; the rest of its move is recorded.
 #[inline(always)]
 fn note_jump(log: &mut UndoLog, calls: &mut Calls, entry: &Entry, pc: u32)
     requires deep { calls.old.depth < 2 ^ 64 - 1 }

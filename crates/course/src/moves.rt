@@ -1,8 +1,8 @@
 //! What is kept of a move, so that it can be undone: 16 bytes, since it is written in each move.
 
 ghost use Rattle.std.specs.Prelude.{◌≡◌};
-ghost use Rattle.course.specs.Moves.{called_in, kept_of_pc, undo_in, with_called};
-ghost use Rattle.course.specs.Words.{deed_of, kind_of};
+ghost use Rattle.course.specs.Private.Moves.{called_in, kept_of_pc, undo_in, with_called};
+ghost use Rattle.course.specs.Private.Words.{deed_of, kind_of};
 
 use crate::calls::Called;
 use rv32i::{Instr, Reg, Undo, destination};
@@ -29,7 +29,7 @@ pub(crate) struct Deed {
     pub kind: Kind,
 }
 
-/// What a move did beside writing a register: a store of so many bytes, or what it did to the calls.
+/// What a move did beside writing a register: a store of some bytes, or what it did to the calls.
 #[derive(Clone, Copy)]
 pub(crate) enum Kind {
     Nothing,

@@ -1,8 +1,8 @@
 //! The places of words that are remembered decoded.
 
 ghost use Rattle.std.specs.Prelude.{◌≡◌, ℕ, ◌+◌, ◌*◌, ◌/◌, ◌≤◌, List, vec_capacity};
-ghost use Rattle.course.specs.Words.{AreKnown, Fetches, Makes, Readies, Remembers, forgotten, place_of};
-ghost use Rattle.course.specs.Words as spec;
+ghost use Rattle.course.specs.Private.Words.{AreKnown, Fetches, Makes, Readies, Remembers, forgotten, place_of};
+ghost use Rattle.course.specs.Private.Words as spec;
 
 use crate::entry::{Entry, entry_of};
 use image::{MemFault, Memory};
@@ -73,7 +73,7 @@ fn remember(entries: &mut Vec<Entry>, pc: u32, instr: Instr)
     entries[k] = entry_of(pc, instr);
 }
 
-// Makes places, so that there are so many at least. All the room is there.
+// Makes places, up to at least `count`. All the room is there.
 fn make(entries: &mut Vec<Entry>, count: usize)
     requires room { 16384 ≤ vec_capacity entries.old }
     requires few { count ≤ 16384 }
@@ -100,8 +100,7 @@ pub(crate) fn forget(entries: &mut Vec<Entry>, at: usize)
     }
 }
 
-/// Forgets the words of so many bytes from an address on: all words, where these are more than there are
-/// places.
+/// Forgets the words of `count` bytes from an address on: all words, where these are more than the places.
 pub(crate) fn forget_words(entries: &mut Vec<Entry>, addr: u32, count: usize)
     ensures forgets { (memory : List ℕ) → AreKnown memory 0 0 entries.old.items
         → AreKnown memory (addr / 4 * 4) (addr + count) entries.new.items }

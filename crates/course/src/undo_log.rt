@@ -1,7 +1,7 @@
 //! What undoes the last moves.
 
 ghost use Rattle.std.specs.Prelude.{◌≡◌, ◌<◌, ◌≤◌, [], drop, length, slice_get, vec_capacity, IfOk};
-ghost use Rattle.course.specs.Moves.{Amends, HandsOn, Puts, TakesBack, moves_of, placed, with_called, with_move};
+ghost use Rattle.course.specs.Private.Moves.{Amends, HandsOn, Puts, TakesBack, moves_of, placed, with_called, with_move};
 
 use crate::calls::Called;
 use crate::moves::Move;
@@ -29,7 +29,7 @@ pub(crate) struct UndoLog {
 
 impl Model for UndoLog {
     ghost use Rattle.std.specs.Prelude.{◌≡◌, ◌≤◌, length, vec_capacity};
-    ghost use Rattle.course.specs.Moves.{Log};
+    ghost use Rattle.course.specs.Private.Moves.{Log};
 
     ghost Value = { Log };
 
@@ -122,7 +122,7 @@ impl UndoLog {
     }
 }
 
-// Sees to it that there is room for a move behind the newest ones.
+// Makes room for a move behind the newest ones.
 #[inline(always)]
 fn make_room(ring: &mut HeapCircularBuffer<Move>, newest: &mut Vec<Move>)
     requires { ring.old.capacity ≡ 65536 }

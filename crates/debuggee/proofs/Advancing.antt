@@ -1,29 +1,22 @@
 -- Many moves, and the check at the entry.
-use Rattle.std.proofs.Common.{◌≡◌, ℕ, zero, suc, ◌+◌, Bool, true, false, List, [], ◌∷◌, Option, Some, None, Result, Ok, Err, refl, sym, ap, ◌∙◌, subst, arith}
+use Rattle.debuggee.proofs.Common.{[], Advances, ap, arith, Back, back_outcome, back_tick, Bool, Debugged, entry_checked, entry_tick, Err, false, Go, Goal, GoesQuietly, gone_back, hit_at_pc, In, IsTick, List, looked_at, meets_goal, moved, moved_as, Moves, NamesNone, next_tick, None, Ok, Option, Out, outcome_of, outcome_or, Over, owing, plain_tick, Position, Program, refl, Result, ReverseGo, settled, Settles, Some, stayed, stays, subst, suc, sym, Tick, tick_of, true, undone, undone_by, unless_start, went_on, zero, ℕ, ◌+◌, ◌∙◌, ◌∷◌, ◌≡◌}
 use Rattle.std.specs.declared.alloc.AllocError.{AllocError}
 use Rattle.rv32i.specs.Machine.{IsMove, machine_of}
 use Rattle.rv32i.specs.declared.instr.Instr.{Instr}
 use Rattle.rv32i.specs.declared.stepped.Stepped.{Stepped}
 use Rattle.rv32i.specs.declared.stepped.Stepped.TheVariants.{Retired, Printed, Break, Exit, Trap}
-use Rattle.stepping.specs.Plain.{plain_tick}
 use Rattle.stepping.specs.Runs.{Goes, IsRun, EndsRun, MayLackMemory}
 use Rattle.stepping.specs.Goals.{turns_back}
-use Rattle.stepping.specs.Ticks.{Debugged, IsTick, Moves, Settles, back_outcome, back_tick, entry_checked, entry_tick, gone_back, hit_at_pc, looked_at, meets_goal, moved_as, outcome_of, outcome_or, settled, stayed, tick_of, undone, undone_by, unless_start, went_on}
-use Rattle.stepping.specs.declared.goal.Goal.{Goal}
-use Rattle.stepping.specs.declared.goal.Goal.TheVariants.{Go, In, Over, Out, Back, ReverseGo}
 use Rattle.stepping.specs.declared.tick.RunEnd.{RunEnd}
 use Rattle.stepping.specs.declared.tick.RunEnd.TheVariants as ending
 use Rattle.stepping.specs.declared.tick.Outcome.TheVariants.{Went}
 use Rattle.stepping.specs.declared.tick.Ran.{Ran}
-use Rattle.stepping.specs.declared.tick.Tick.{Tick}
 use Rattle.breakpoints.specs.Stops.{standing_in}
 use Rattle.breakpoints.specs.declared.breakpoint.Hit.{Hit}
-use Rattle.course.specs.Positions.{Position}
 use Rattle.stepping.proofs.Advancing.{stays_so}
 use Rattle.stepping.proofs.Cases.{Enters, GoesBack, by_tick}
 use Rattle.stepping.proofs.Determined.{tick_is_deterministic}
 use Rattle.stepping.proofs.Existing.{the_tick}
-use Rattle.debuggee.specs.Programs.{Program, Advances, GoesQuietly, NamesNone, moved, next_tick, owing, stays}
 use Rattle.debuggee.specs.declared.program.Advanced.TheVariants.{Owes, Meets, Lacks}
 use Rattle.debuggee.proofs.Naming.{looks_name_none, owes_it, owing_none, plain_owes_none, undone_names_none}
 
@@ -40,7 +33,7 @@ the_one d after tick h =
     let e = tick_is_deterministic d after (the_tick d).after (Ok tick) (Ok (the_tick d).tick) h (the_tick d).is in
     (ap (tick_or tick) e.0, e.1)
 
--- ---- what a tick that goes on leaves
+-- ---- what a tick leaves where the machine continues
 
 went_names_none : (s : Stepped) (instr : Option Instr) (before d : Debugged) → (tick_of s instr before.hart.pc d).outcome ≡ Went
     → (settled s instr before d).lists.ids ≡ []
@@ -104,11 +97,7 @@ backs_or hit past = by hit.source hit.instruction hit.function past where
 
 backs_on : (g : Goal) (d : Debugged) → stays (back_outcome g d) ≡ false
 backs_on ReverseGo d = backs_or (standing_in d.hart.pc d.hart d.memory d.lists) d.past
-backs_on Go d = refl
-backs_on (In granularity) d = refl
-backs_on (Over granularity) d = refl
-backs_on (Out granularity) d = refl
-backs_on Back d = refl
+backs_on _ d = refl
 
 stays_put : (before after : Debugged) (s : Stepped) (instr : Option Instr) → let pc = before.hart.pc in
     stays (tick_of s instr pc (moved_as before after)).outcome ≡ true
@@ -141,7 +130,7 @@ stays_there before after tick due none h e =
         let same : tick ≡ back_tick before = cc in
         absurd (let never : false ≡ true = sym (backs_on before.goal (undone before)) ∙ ap (λ (t : Tick). stays t.outcome) (sym same) ∙ e in cc)
 
--- ---- so many ticks of which there is nothing to tell
+-- ---- a number of ticks with nothing to tell
 
 none_named_after : (n : ℕ) (before middle : Debugged) → NamesNone before → Goes n before middle → NamesNone middle
 none_named_after zero before middle none g = subst NamesNone (sym g) none
@@ -150,21 +139,14 @@ none_named_after (suc n) before middle none g = (going_names_none g.0 middle pla
 settles_due : (before after : Debugged) (s : Stepped) (instr : Option Instr) → after ≡ settled s instr before (moved_as before after)
     → after.check_due ≡ before.check_due
 settles_due before after Retired instr h = ap (λ (d : Debugged). d.check_due) h
-settles_due before after (Printed number) instr h = ap (λ (d : Debugged). d.check_due) h
-settles_due before after Break instr h = ap (λ (d : Debugged). d.check_due) h
-settles_due before after (Exit code) instr h = ap (λ (d : Debugged). d.check_due) h
-settles_due before after (Trap cause) instr h = ap (λ (d : Debugged). d.check_due) h
+settles_due before after _ instr h = ap (λ (d : Debugged). d.check_due) h
 
 moves_due : (before after : Debugged) (tick : Tick) (m : Moves before (Ok tick) after) → after.check_due ≡ before.check_due
 moves_due before after tick m = settles_due before after m.stepped m.instr m.settles.1
 
 looked_due : (g : Goal) (d : Debugged) → (looked_at g d).check_due ≡ d.check_due
 looked_due ReverseGo d = refl
-looked_due Go d = refl
-looked_due (In granularity) d = refl
-looked_due (Over granularity) d = refl
-looked_due (Out granularity) d = refl
-looked_due Back d = refl
+looked_due _ d = refl
 
 undone_due : (past : List Position) (d : Debugged) → (undone_by past d).check_due ≡ d.check_due
 undone_due [] d = refl
@@ -186,7 +168,7 @@ still_not_due (suc n) before middle due g = tick_not_due g.0 middle plain_tick (
 abbrev pub with_machine : Program → Debugged → Program
 with_machine p d = record p { machine = d }
 
--- after a tick of which there is nothing to tell
+-- after a tick with nothing to tell
 quiet_move : (p : Program) (before after : Debugged) → p.owed ≡ None → IsTick before (Ok plain_tick) after → after.lists.logs ≡ []
     → ((moved (with_machine p before)).owed ≡ None) × (with_machine p after ≡ moved (with_machine p before))
 quiet_move p before after none h quiet =

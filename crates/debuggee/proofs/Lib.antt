@@ -1,3 +1,4 @@
+pub mod Common
 pub mod Naming
 pub mod Advancing
 pub mod Loading

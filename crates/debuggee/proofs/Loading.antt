@@ -1,21 +1,15 @@
 -- A program that was just loaded, or is loaded anew.
-use Rattle.std.proofs.Common.{◌≡◌, ℕ, zero, suc, List, [], ◌∷◌, Option, Result, Ok, Err, OnOk, refl, ap, sym, ◌∙◌, subst}
+use Rattle.debuggee.proofs.Common.{[], ap, Back, Debugged, Err, Go, Goal, gone_back, In, IsTick, List, looked_at, moved_as, Ok, OnOk, Option, Out, Over, plain_tick, Position, refl, Result, ReverseGo, settled, subst, suc, sym, Tick, undone, undone_by, zero, ℕ, ◌∙◌, ◌∷◌, ◌≡◌}
 use Rattle.image.specs.declared.Image.{Image}
 use Rattle.stepping.specs.Loading.{CanBeLoaded, IsLoaded, loaded, no_breakpoints, not_hit, reloaded}
 use Rattle.std.specs.declared.alloc.AllocError.{AllocError}
 use Rattle.rv32i.specs.declared.instr.Instr.{Instr}
 use Rattle.rv32i.specs.declared.stepped.Stepped.{Stepped}
 use Rattle.rv32i.specs.declared.stepped.Stepped.TheVariants.{Retired, Printed, Break, Exit, Trap}
-use Rattle.stepping.specs.Plain.{plain_tick}
 use Rattle.stepping.specs.Runs.{EndsRun, Goes, IsRun}
-use Rattle.course.specs.Positions.{Position}
-use Rattle.stepping.specs.Ticks.{Debugged, IsTick, gone_back, looked_at, moved_as, settled, undone, undone_by}
-use Rattle.stepping.specs.declared.goal.Goal.{Goal}
-use Rattle.stepping.specs.declared.goal.Goal.TheVariants.{Go, In, Over, Out, Back, ReverseGo}
 use Rattle.stepping.specs.declared.tick.RunEnd.{RunEnd}
 use Rattle.stepping.specs.declared.tick.RunEnd.TheVariants.{Spent, Ticked, NoMemory}
 use Rattle.stepping.specs.declared.tick.Ran.{Ran}
-use Rattle.stepping.specs.declared.tick.Tick.{Tick}
 use Rattle.stepping.proofs.Cases.{by_tick}
 use Rattle.stepping.proofs.Loading.{one_is_loaded, one_is_reloaded}
 
@@ -31,18 +25,11 @@ anew_is image before after h = (one_is_reloaded image before after).0 h
 settled_size : (before after : Debugged) (s : Stepped) (instr : Option Instr) → after ≡ settled s instr before (moved_as before after)
     → after.size ≡ before.size
 settled_size before after Retired instr h = ap (λ (d : Debugged). d.size) h
-settled_size before after (Printed number) instr h = ap (λ (d : Debugged). d.size) h
-settled_size before after Break instr h = ap (λ (d : Debugged). d.size) h
-settled_size before after (Exit code) instr h = ap (λ (d : Debugged). d.size) h
-settled_size before after (Trap cause) instr h = ap (λ (d : Debugged). d.size) h
+settled_size before after _ instr h = ap (λ (d : Debugged). d.size) h
 
 looked_size : (g : Goal) (d : Debugged) → (looked_at g d).size ≡ d.size
 looked_size ReverseGo d = refl
-looked_size Go d = refl
-looked_size (In granularity) d = refl
-looked_size (Over granularity) d = refl
-looked_size (Out granularity) d = refl
-looked_size Back d = refl
+looked_size _ d = refl
 
 undone_size : (past : List Position) (d : Debugged) → (undone_by past d).size ≡ d.size
 undone_size [] d = refl

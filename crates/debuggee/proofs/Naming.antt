@@ -1,18 +1,12 @@
--- Where a tick goes on, no breakpoint is named that stopped; and where there is nothing to tell of it, no logpoint is.
-use Rattle.std.proofs.Common.{◌≡◌, ℕ, ℤ, Bool, true, false, cond, ◌||◌, List, [], ◌∷◌, ◌++◌, map, Option, Some, None, refl, sym, ap, ◌∙◌}
+-- Where the machine continues after a tick, no breakpoint is named that stopped; with nothing to tell, no logpoint is.
+use Rattle.debuggee.proofs.Common.{[], ap, Back, back_outcome, back_tick, Bool, cond, Debugged, false, Go, Goal, gone_back, hit_at_pc, In, IsPlain, List, looked_at, map, None, Option, Out, outcome_of, outcome_or, Over, owing, owing_by, plain_tick, refl, ReverseGo, Some, sym, Tick, true, undone, unless_start, with_check, ℕ, ℤ, ◌++◌, ◌||◌, ◌∙◌, ◌∷◌, ◌≡◌}
 use Rattle.std.specs.Prelude.{filter}
 use Rattle.std.specs.List.{list_any}
 use Rattle.breakpoints.specs.Stops.{Lists, Placed, hit_where, ids_where, stands, stops}
-use Rattle.stepping.specs.Ticks.{Debugged, back_outcome, back_tick, gone_back, hit_at_pc, looked_at, outcome_of, outcome_or, undone, unless_start, with_check}
-use Rattle.stepping.specs.declared.goal.Goal.{Goal}
-use Rattle.stepping.specs.declared.goal.Goal.TheVariants.{Go, In, Over, Out, Back, ReverseGo}
-use Rattle.stepping.specs.Plain.{IsPlain, plain_tick}
 use Rattle.stepping.specs.declared.tick.Outcome.{Outcome}
 use Rattle.stepping.specs.declared.tick.Outcome.TheVariants.{Went, Stopped, Ended}
-use Rattle.stepping.specs.declared.tick.Tick.{Tick}
-use Rattle.debuggee.specs.Programs.{owing, owing_by}
 
--- where none of a list is so, none is named
+-- where none of a list passes the test, none is named
 none_named : (test : Placed → Bool) (list : List Placed) → list_any test list ≡ false → ids_where test list ≡ []
 none_named test [] e = refl
 none_named test (b ∷ list) e = by_first (test b) refl e (none_named test list) where
@@ -40,18 +34,14 @@ names_none test lists other e =
     let functions = none_named test lists.functions none.1.1 in
     λ j. source j ++ instructions j ++ functions j
 
--- a look at the breakpoints that goes on
+-- a look at the breakpoints after which the machine continues
 pub looks_name_none : (d : Debugged) (goal : Bool) → outcome_of (hit_at_pc d) goal ≡ Went → (with_check d).lists.ids ≡ []
 looks_name_none d goal e = names_none (stops d.hart.pc d.hart d.memory) d.lists _ e
 
 -- and one on the way back
 looks_back : (g : Goal) (d : Debugged) → back_outcome g d ≡ Went → (looked_at g d).lists.ids ≡ []
 looks_back ReverseGo d e = names_none (stands d.hart.pc d.hart d.memory) d.lists (unless_start d.past) e
-looks_back Go d e = refl
-looks_back (In granularity) d e = refl
-looks_back (Over granularity) d e = refl
-looks_back (Out granularity) d e = refl
-looks_back Back d e = refl
+looks_back _ d e = refl
 
 pub undone_names_none : (d : Debugged) → (back_tick d).outcome ≡ Went → (gone_back d).lists.ids ≡ []
 undone_names_none d e = looks_back d.goal (undone d) e
@@ -66,7 +56,7 @@ owing_by_none None (Stopped reason) logs e = absurd (cc)
 owing_by_none None (Ended code) logs e = absurd (cc)
 owing_by_none (Some n) outcome logs e = absurd (cc)
 
--- nothing: the machine goes on, nothing was printed, and no logpoint has something to say
+-- nothing: the machine continues, nothing was printed, and no logpoint has something to say
 pub owing_none : (tick : Tick) (after : Debugged) → owing tick after ≡ None
     → (tick.printed ≡ None) × ((tick.outcome ≡ Went) × (after.lists.logs ≡ []))
 owing_none tick after e = owing_by_none tick.printed tick.outcome after.lists.logs e

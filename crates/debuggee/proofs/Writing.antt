@@ -1,11 +1,8 @@
 -- Bytes are written to the memory of a program.
-use Rattle.std.proofs.Common.{◌≡◌, ℕ, List, length, Result, Ok, Err, ap, ◌∙◌}
+use Rattle.debuggee.proofs.Common.{ap, Debugged, Err, IsWritten, length, List, Ok, past_left, Position, Program, Result, written, ℕ, ◌∙◌, ◌≡◌}
 use Rattle.image.specs.Memory.{WritesOrLacks, fault_at, memory_after, unless_fault, with_bytes}
 use Rattle.image.specs.declared.fault.MemFault.{MemFault}
 use Rattle.image.specs.declared.fault.MemFault.TheVariants.{Misaligned, Outside, NoMemory}
-use Rattle.course.specs.Positions.{Position, past_left}
-use Rattle.stepping.specs.Ticks.{Debugged}
-use Rattle.debuggee.specs.Programs.{IsWritten, Program, written}
 use Rattle.debuggee.proofs.Advancing.{with_machine}
 
 -- this machine, with such memory and such a past

@@ -78,7 +78,7 @@ is_ended Running = false
 is_ended (Stopped reason) = false
 is_ended (Ended code) = true
 
--- why a program stands still that was marked so
+-- why a program with this mark stands still
 abbrev pub why_marked : Mark → Why
 why_marked MarkEntry = why.Entry
 why_marked MarkPause = why.Pause
@@ -103,7 +103,7 @@ ended code p = record p { run = Ended code; mark = None }
 abbrev pub begun : Goal → Bool → Debugged → Debugged
 begun goal first d = record d { goal = goal; start = d.calls.depth; check_due = first }
 
--- it goes on, with a goal; no other run than the first makes the check at the entry
+-- it continues, with a goal; no other run than the first makes the check at the entry
 abbrev pub resumed : Goal → Program → Program
 resumed goal p = record p { run = Running; machine = begun goal false p.machine }
 
@@ -134,8 +134,8 @@ marked mark p = marked_by p.run mark p
 
 -- ---- what a move leaves
 
--- what there is to tell of a tick, by the logpoints that have something to say after it: nothing where the machine goes
--- on, nothing was printed, and there are no such logpoints
+-- what there is to tell of a tick, by the logpoints that have something to say after it: nothing where the machine
+-- continues, nothing was printed, and there are no such logpoints
 abbrev pub owing_by : Option ℤ → Outcome → List ℕ → Option Tick
 owing_by None Went [] = None
 owing_by printed outcome logs = Some (record { printed = printed; outcome = outcome })
@@ -172,7 +172,7 @@ NamesNone d = (d.lists.ids ≡ []) × (d.lists.logs ≡ [])
 
 -- ---- its breakpoints are replaced
 
--- Those of source lines are now these, none of which was hit yet, or those of instructions or of functions are. The
+-- Those of source lines are now these, with no hits yet, or those of instructions or of functions are. The
 -- others stay, with their hits. A stop that is owed still is, and names no breakpoint: what stopped it may be set no
 -- more. Nor does a logpoint say what it had to say.
 abbrev pub with_source : List Wanted → Program → Program
@@ -264,14 +264,14 @@ stays Went = false
 stays (HasStopped reason) = is_exception reason
 stays (HasEnded code) = true
 
--- so many moves, of none of which there is anything to tell
+-- this many moves, with nothing to tell of them
 abbrev pub GoesQuietly : ℕ → Program → Program → Type 0
 GoesQuietly zero p q = q ≡ p
 GoesQuietly (suc n) p q = (middle : Program)
     × (GoesQuietly n p middle × (((moved middle).owed ≡ None) × (q ≡ moved middle)))
 
--- What comes of moves, so many at most: all of them, with nothing to tell; or so many, the last of which is to be told;
--- or so many, before an instruction that stays; or so many, before one for which no memory was left.
+-- What at most `most` moves lead to: all of them, with nothing to tell; or `n`, where the last is to be told; or `n`,
+-- before an instruction that stays; or `n`, before one for which no memory was left.
 abbrev pub Advances : ℕ → Program → Advanced → Program → Type 0
 Advances most p Spent q = GoesQuietly most p q
 Advances most p (Owes n) q = (middle : Program) × (k : ℕ) × ((n ≡ suc k) × ((k < most) × (GoesQuietly k p middle

@@ -54,18 +54,18 @@ impl Model for Program {
         × CanBeLoaded p.image p.runner.size };
 }
 
-/// What came of moves, of which no more were made than asked for.
+/// How many moves `advance` made, at most as many as asked for, and why no more.
 #[derive(Clone, Copy, Debug, PartialEq, Eq)]
 pub enum Advanced {
     /// As many as asked for were made, and there is nothing to tell.
     Spent,
-    /// So many were made, and the program owes what the last of them came to.
+    /// This many were made, and the program owes what the last one came to.
     Owes(u32),
-    /// So many were made, and there is nothing to tell of them. The instruction that comes next was not made: it traps or ends the
+    /// This many were made, with nothing to tell of them. The instruction that comes next was not made: it traps or ends the
     /// program, and would come to this.
     Meets(u32, Tick),
-    /// So many were made, and there is nothing to tell of them. The move that comes next was not made: no memory was left for a page
-    /// of which each byte is 0, into which it stores, or into which it puts a byte back.
+    /// This many were made, with nothing to tell of them. The move that comes next was not made: no memory was left for a page of
+    /// zeros into which it stores, or into which it puts a byte back.
     Lacks(u32),
 }
 
@@ -162,7 +162,7 @@ impl Program {
         self.owed = owing(tick, &self.runner);
     }
 
-    /// Makes `most` moves, or fewer: up to the first of which there is something to tell, which it then owes, and none that traps or
+    /// Makes `most` moves, or fewer: up to the first with something to tell, which it then owes, and none that traps or
     /// ends the program, since a stop that is not told is not made, nor one for which no memory was left. It runs or not as before.
     /// No check at the entry is due, it owes nothing, and no more than 2^62 instructions will have retired, unless it goes back.
     pub fn advance(&mut self, most: u32) -> Advanced
@@ -195,7 +195,7 @@ impl Program {
         self.owed = None;
     }
 
-    /// Replaces the breakpoints of source lines, at most 1,024, by these, none of which was hit yet (`SetBreakpointsRequest`); those
+    /// Replaces the breakpoints of source lines, at most 1,024, by these, with no hits yet (`SetBreakpointsRequest`); those
     /// of instructions and of functions stay, with their hits. What it owes it still owes, but a stop that is owed names no breakpoint
     /// then, and logpoints do not say what they had to say: for that, tell it first. `Err`: no memory was left, and nothing has
     /// changed.
@@ -208,7 +208,7 @@ impl Program {
         self.runner.breaks_mut().set_source(specs)
     }
 
-    /// Replaces the breakpoints of instructions, at most 1,024, by these, none of which was hit yet
+    /// Replaces the breakpoints of instructions, at most 1,024, by these, with no hits yet
     /// (`SetInstructionBreakpointsRequest`); those of source lines and of functions stay, with their hits. What it owes it still owes,
     /// but a stop that is owed names no breakpoint then, and logpoints do not say what they had to say: for that, tell it first.
     /// `Err`: no memory was left, and nothing has changed.
@@ -221,7 +221,7 @@ impl Program {
         self.runner.breaks_mut().set_instructions(specs)
     }
 
-    /// Replaces the breakpoints of functions, at most 1,024, by these, none of which was hit yet (`SetFunctionBreakpointsRequest`);
+    /// Replaces the breakpoints of functions, at most 1,024, by these, with no hits yet (`SetFunctionBreakpointsRequest`);
     /// those of source lines and of instructions stay, with their hits. What it owes it still owes, but a stop that is owed names no
     /// breakpoint then, and logpoints do not say what they had to say: for that, tell it first. `Err`: no memory was left, and nothing
     /// has changed.

@@ -40,7 +40,7 @@ pub enum Mark {
 }
 
 impl Mark {
-    /// Why a program stands still that was marked so: at its entry, or as it was asked to.
+    /// Why a program with this mark stands still: at its entry, or as it was asked to.
     pub fn why(self) -> Why
         ensures { result ≡ why_marked self }
     {

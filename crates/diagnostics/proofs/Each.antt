@@ -1,29 +1,9 @@
 -- Each line in error is told.
-use Rattle.std.proofs.Common.{◌≡◌, ℕ, ◌+◌, Bool, true, false, cond, List, [], ◌∷◌, ◌++◌, length, map, Option, Some, None, Result, Ok, Err, refl, sym, ap, subst, ◌∙◌, append_assoc, arith}
-use Rattle.std.specs.Prelude.{◌%◌, ◌==◌, ◌&&◌, ◌||◌, if◌then◌else◌, is_some, nat_le, not}
-use Rattle.std.specs.List.{All, Contains}
-use Rattle.std.specs.Option.{unwrap_or}
-use Rattle.std.specs.Str.{bytes_eq}
-use Rattle.std.specs.Str.Lines.{lines}
-use Rattle.std.proofs.lemmas.List.{append-nil}
-use Rattle.std.proofs.lemmas.List.Elements.{All-head, All-tail, Contains-append_left, Contains-append_right, Contains-push}
+use Rattle.diagnostics.proofs.Common.{[], All, All-head, All-tail, ap, append-nil, append_assoc, arith, AsmError, AsmErrorKind, at, Bool, bytes_eq, cond, Contains, Contains-append_left, Contains-append_right, Contains-push, content_at, content_errors, defines_twice, EachIsTold, end_of, end_of_line, Err, error_if, error_in, errors_by, errors_read, false, first_address, if◌then◌else◌, is_aligned, is_some, Label, labels_at, labels_in, length, Line, line_then, LineError, lines, List, listed, map, memory_limit, misplaced_at, misplaced_so, named, nat_le, next_address, None, not, of_line, Ok, Option, or_next, Place, place, place_errors, placed, places, program_errors, read, read_by, read_lines, reading_errors, refl, Result, Some, Source, stands, subst, sym, true, unread, unwrap_or, value_in, whole_error, with_label, with_labels, wrong_in, ℕ, ◌%◌, ◌&&◌, ◌++◌, ◌+◌, ◌==◌, ◌||◌, ◌∙◌, ◌∷◌, ◌≡◌}
 use Rattle.std.proofs.lemmas.Slice.Eq.{bytes_eq-Decides}
-use Rattle.image.specs.Lines.{Label}
-use Rattle.image.specs.Memory.{first_address}
-use Rattle.assembler.specs.Contents.{content_at, wrong_in}
-use Rattle.assembler.specs.Errors.{at, error_in, of_line}
-use Rattle.assembler.specs.Placed.{placed}
-use Rattle.assembler.specs.Places.{defines_twice, end_of, end_of_line, is_aligned, labels_at, labels_in, Place, place, places}
-use Rattle.assembler.specs.Program.{line_then, read_by, read_lines, read_text, whole_error}
-use Rattle.assembler.specs.declared.error.AsmError.{AsmError}
-use Rattle.assembler.specs.declared.error.AsmErrorKind.{AsmErrorKind}
+use Rattle.assembler.specs.Program.{read_text}
 use Rattle.assembler.specs.declared.error.AsmErrorKind.TheVariants as k
-use Rattle.statements.specs.Reading.{read}
-use Rattle.statements.specs.Spelling.{named}
-use Rattle.statements.specs.declared.error.LineError.{LineError}
-use Rattle.statements.specs.declared.line.Line.{Line}
-use Rattle.diagnostics.specs.Errors.{content_errors, EachIsTold, error_if, errors_by, errors_of, errors_read, listed, memory_limit, misplaced_at, next_address, or_next, place_errors, program_errors, reading_errors, Source, stands, unread, value_in, with_label, with_labels}
-use Rattle.diagnostics.specs.Steps.{misplaced_so}
+use Rattle.diagnostics.specs.Errors.{errors_of}
 use Rattle.diagnostics.proofs.Finding.{misplaced_same}
 use Rattle.diagnostics.proofs.Reported.{first_place, no_first}
 

@@ -1,22 +1,7 @@
 -- What the passes find in lines that were read.
-use Rattle.std.proofs.Common.{◌≡◌, ℕ, ◌+◌, ◌%◌, ◌<◌, Bool, true, false, List, [], ◌∷◌, ◌++◌, length, Option, Some, None, Result, Ok, Err, refl, sym, ap, ◌∙◌, append_assoc, arith}
-use Rattle.std.specs.Prelude.{◌==◌, ◌&&◌, if◌then◌else◌, is_some, nat_le, not}
-use Rattle.std.specs.Option.{unwrap_or}
-use Rattle.std.proofs.lemmas.List.{append-nil}
-use Rattle.image.specs.Lines.{Label}
-use Rattle.image.specs.Memory.{first_address}
-use Rattle.assembler.specs.Errors.{error_in}
-use Rattle.assembler.specs.Placed.{placed}
-use Rattle.assembler.specs.Places.{defines_twice, end_of_line, is_aligned, labels_at, labels_in, misplaced, place, places}
-use Rattle.assembler.specs.Program.{kept, line_then, read_lines, says_nothing}
-use Rattle.assembler.specs.declared.error.AsmError.{AsmError}
-use Rattle.assembler.specs.declared.error.AsmErrorKind.{AsmErrorKind}
+use Rattle.diagnostics.proofs.Common.{[], all_read, ap, append-nil, append_assoc, arith, AsmError, AsmErrorKind, Bool, content_errors, content_steps, defines_twice, end_of_line, Err, error_if, error_in, false, first_address, if◌then◌else◌, is_aligned, is_some, kept, Label, labels_after, labels_at, labels_in, length, Line, line_then, LineError, List, listed, memory_limit, misplaced, misplaced_at, misplaced_so, nat_le, next_address, None, not, Ok, Option, or_next, place, place_errors, placed, places, program_errors, read, read_lines, refl, Result, said, said_lines, says_nothing, Some, Source, stands, sym, true, unwrap_or, value_in, with_labels, wrong_content, ℕ, ◌&&◌, ◌++◌, ◌+◌, ◌<◌, ◌==◌, ◌∙◌, ◌∷◌, ◌≡◌}
+use Rattle.std.proofs.Common.{◌%◌}
 use Rattle.assembler.specs.declared.error.AsmErrorKind.TheVariants as k
-use Rattle.statements.specs.Reading.{read}
-use Rattle.statements.specs.declared.error.LineError.{LineError}
-use Rattle.statements.specs.declared.line.Line.{Line}
-use Rattle.diagnostics.specs.Errors.{content_errors, error_if, listed, memory_limit, misplaced_at, next_address, or_next, place_errors, program_errors, Source, stands, value_in, with_labels}
-use Rattle.diagnostics.specs.Steps.{all_read, content_steps, labels_after, misplaced_so, said, said_lines, wrong_content}
 use Rattle.diagnostics.proofs.Naming.{with_labels_new}
 use Rattle.diagnostics.proofs.Wrong.{wrong_so}
 

@@ -1,12 +1,7 @@
 -- The line of a text that has a number.
-use Rattle.std.proofs.Common.{◌≡◌, ℕ, zero, suc, ◌-◌, ◌<◌, ◌≤◌, true, false, List, length, get_or, Option, Some, None, refl, sym, ap, ◌∙◌, arith}
-use Rattle.std.specs.Prelude.{slice_get}
-use Rattle.std.specs.Str.{IsUtf8, is_utf8}
-use Rattle.std.specs.Str.Lines.{lines}
-use Rattle.std.proofs.lemmas.Bool.{false_from_ne_true}
+use Rattle.diagnostics.proofs.Common.{ap, arith, false, false_from_ne_true, get_or, is_utf8, IsUtf8, length, line_in, lines, List, None, numbered, Option, refl, slice_get, Some, suc, sym, true, zero, ℕ, ◌-◌, ◌<◌, ◌∙◌, ◌≡◌, ◌≤◌}
 use Rattle.std.proofs.lemmas.Option.{slice_get-get_or, slice_get_past}
 use Rattle.std.proofs.lemmas.Str.{IsUtf8-from_is_utf8, is_utf8-from_IsUtf8}
-use Rattle.diagnostics.specs.Errors.{line_in, numbered}
 
 pub here : (all : List (List ℕ)) (passed count yielded : ℕ) (line : List ℕ) → passed ≡ count → passed ≡ yielded
     → (yielded < length all) × (line ≡ get_or all yielded line) → Some line ≡ slice_get all count

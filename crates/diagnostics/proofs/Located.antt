@@ -1,17 +1,12 @@
 -- The errors of a text, by how it is read.
-use Rattle.std.proofs.Common.{Vec, vec_items, ◌≡◌, ℕ, ◌≤◌, true, false, List, [], ◌∷◌, length, map, Option, Some, None, Result, Ok, Err, refl, sym, ap, ◌∙◌, arith}
-use Rattle.std.specs.Prelude.{◌==◌, Bool, if◌then◌else◌, IfOk, IfSome, nat_lt}
-use Rattle.std.specs.List.{slice_split}
-use Rattle.std.specs.Str.{IsUtf8, is_utf8}
-use Rattle.std.specs.Str.Lines.{lines, lines_of_parts}
+use Rattle.diagnostics.proofs.Common.{[], ap, arith, AsmError, Err, errors_by, errors_in, false, IfOk, IfSome, if◌then◌else◌, is_utf8, IsUtf8, length, length-map, line_errors, line_in, lines, lines_of, lines_of_parts, List, located_among, map, nat_lt, None, Ok, Option, refl, Result, slice_split, Some, sym, text_limit, true, Vec, vec_items, ℕ, ◌==◌, ◌∙◌, ◌∷◌, ◌≡◌, ◌≤◌}
+use Rattle.std.specs.Prelude.{Bool}
 use Rattle.std.proofs.lemmas.Bool.Decides.{nat_tests}
-use Rattle.std.proofs.lemmas.List.{length-map}
 use Rattle.std.proofs.lemmas.List.Splits.{length-slice_split}
 use Rattle.std.proofs.lemmas.List.Sums.{count_by-le-length}
 use Rattle.std.proofs.lemmas.Str.{is_utf8-from_IsUtf8}
-use Rattle.assembler.specs.Program.{text_limit, whole_error}
-use Rattle.assembler.specs.declared.error.AsmError.{AsmError}
-use Rattle.diagnostics.specs.Errors.{errors_by, errors_in, errors_of, line_errors, line_in, lines_of, located_among}
+use Rattle.assembler.specs.Program.{whole_error}
+use Rattle.diagnostics.specs.Errors.{errors_of}
 
 -- ---- how many lines a text has
 

@@ -1,14 +1,7 @@
--- Labels that are added to others, of which some may have their names.
-use Rattle.std.proofs.Common.{◌≡◌, ℕ, Bool, true, false, List, [], ◌∷◌, ◌++◌, map, refl, sym, ap, ◌∙◌, append_assoc}
-use Rattle.std.specs.Prelude.{◌||◌, is_some}
-use Rattle.std.proofs.lemmas.Bool.{or_parts}
-use Rattle.std.proofs.lemmas.List.{append-nil}
-use Rattle.image.specs.Lines.{Label}
-use Rattle.assembler.specs.Places.{defines_twice}
-use Rattle.statements.specs.Spelling.{named}
-use Rattle.diagnostics.specs.Errors.{with_label, with_labels}
+-- Labels that are added to others, which may have some of their names.
+use Rattle.diagnostics.proofs.Common.{[], ap, append-nil, append_assoc, Bool, defines_twice, false, is_some, Label, List, map, named, or_parts, refl, sym, true, with_label, with_labels, ℕ, ◌++◌, ◌||◌, ◌∙◌, ◌∷◌, ◌≡◌}
 
--- labels of which none is defined again are all added
+-- labels are all added where none is defined again
 pub with_labels_new : (address : ℕ) (before : List Label) (names : List (List ℕ)) → defines_twice address before names ≡ false
     → with_labels before address names ≡ before ++ map (λ name. (name, address)) names
 with_labels_new address before [] h = sym (append-nil before)

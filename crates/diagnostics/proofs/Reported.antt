@@ -1,19 +1,7 @@
 -- The first error is the one that the assembler reports.
-use Rattle.std.proofs.Common.{◌≡◌, ℕ, ◌+◌, List, [], ◌∷◌, ◌++◌, Option, Some, None, Result, Ok, Err, refl, sym, ap, ◌∙◌}
-use Rattle.std.specs.Str.Lines.{lines}
-use Rattle.image.specs.Lines.{Label}
-use Rattle.image.specs.Memory.{first_address}
-use Rattle.assembler.specs.Contents.{content_at, content_error, wrong_in}
-use Rattle.assembler.specs.Errors.{error_in, first_of}
-use Rattle.assembler.specs.Placed.{error_by, error_of, placed}
-use Rattle.assembler.specs.Places.{end_of_line, error_at, labels_at, labels_in, misplaced, Place, place, place_error, places}
-use Rattle.assembler.specs.Program.{line_then, read_by, read_lines, read_text, whole_error}
-use Rattle.assembler.specs.declared.error.AsmError.{AsmError}
-use Rattle.assembler.specs.declared.error.AsmErrorKind.{AsmErrorKind}
-use Rattle.statements.specs.Reading.{read}
-use Rattle.statements.specs.declared.error.LineError.{LineError}
-use Rattle.statements.specs.declared.line.Line.{Line}
-use Rattle.diagnostics.specs.Errors.{content_errors, error_if, errors_by, errors_in, errors_of, errors_read, first_in, FirstIsReported, lines_of, listed, located_among, memory_limit, next_address, or_next, place_errors, reading_errors, Source, unread, value_in, with_labels}
+use Rattle.diagnostics.proofs.Common.{[], ap, AsmError, AsmErrorKind, content_at, content_error, content_errors, end_of_line, Err, error_at, error_by, error_if, error_in, error_of, errors_by, errors_in, errors_read, first_address, first_in, first_of, FirstIsReported, Label, labels_at, labels_in, Line, line_then, LineError, lines, lines_of, List, listed, located_among, memory_limit, misplaced, next_address, None, Ok, Option, or_next, Place, place, place_error, place_errors, placed, places, read, read_by, read_lines, reading_errors, refl, Result, Some, Source, sym, unread, value_in, whole_error, with_labels, wrong_in, ℕ, ◌++◌, ◌+◌, ◌∙◌, ◌∷◌, ◌≡◌}
+use Rattle.assembler.specs.Program.{read_text}
+use Rattle.diagnostics.specs.Errors.{errors_of}
 use Rattle.diagnostics.proofs.Finding.{next_so}
 
 -- ---- reading

@@ -1,14 +1,9 @@
 -- What is wrong with a statement is what the assembler finds when it makes its bytes.
-use Rattle.std.proofs.Common.{◌≡◌, ℕ, List, [], ◌∷◌, Option, Some, None, Result, Ok, Err, refl, ◌∙◌}
-use Rattle.image.specs.Lines.{Label}
+use Rattle.diagnostics.proofs.Common.{[], address_of, and_then, AsmErrorKind, branch_offset, call, Coded, coded_branch, coded_jump, content_at, content_of, distance, Err, error_in, first_of, item_bytes, items_bytes, jump_offset, Label, List, load_address, lower, None, Ok, one, Option, plain, refl, Result, Some, store_lower, target_of, upper, value_of, with_more, wrong_content, wrong_in, wrong_items, wrong_statement, ℕ, ◌∙◌, ◌∷◌, ◌≡◌}
 use Rattle.statements.specs.declared.items.Item.{Item}
 use Rattle.statements.specs.declared.items.Width.{Width}
 use Rattle.statements.specs.declared.statement.Statement.{Statement}
 use Rattle.statements.specs.declared.statement.Statement.TheVariants as say
-use Rattle.assembler.specs.Contents.{address_of, and_then, branch_offset, call, Coded, coded_branch, coded_jump, content_at, content_of, distance, item_bytes, items_bytes, jump_offset, load_address, lower, one, plain, store_lower, target_of, upper, value_of, with_more, wrong_in}
-use Rattle.assembler.specs.Errors.{error_in, first_of}
-use Rattle.assembler.specs.declared.error.AsmErrorKind.{AsmErrorKind}
-use Rattle.diagnostics.specs.Steps.{wrong_content, wrong_items, wrong_statement}
 
 coded_so : (coded : Coded) → error_in coded ≡ wrong_in (one coded)
 coded_so (Ok instruction) = refl
@@ -80,9 +75,7 @@ statement_so labels address (say.StoreLower operation rs1 rs2 label) =
 statement_so labels address (say.LoadAddress rd label) = address_so (address_of labels label) rd address
 statement_so labels address (say.Call label) = call_so (address_of labels label) address
 statement_so labels address (say.Data width items) = items_so labels width items
-statement_so labels address (say.Space count) = refl
-statement_so labels address (say.Align power) = refl
-statement_so labels address say.Nothing = refl
+statement_so labels address _ = refl
 
 pub wrong_so : (labels : List Label) (address : ℕ) (statement : Option Statement)
     → wrong_content labels address statement ≡ wrong_in (content_at labels address statement)

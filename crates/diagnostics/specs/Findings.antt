@@ -1,4 +1,4 @@
--- What the code keeps of an error stands for a finding.
+-- What the code keeps of an error represents a finding.
 use Rattle.std.specs.Prelude.{List, map, option_map, string_bytes}
 use Rattle.assembler.specs.Program.{source}
 use Rattle.assembler.specs.declared.error.AsmError.{AsmError}
@@ -22,7 +22,7 @@ finding_of told = record {
 abbrev pub findings_of : List Told → List Finding
 findings_of list = map finding_of list
 
--- the errors of which they are
+-- the errors that they describe
 abbrev pub located_in : List Told → List Located
 located_in list = map located (findings_of list)
 

@@ -2,8 +2,6 @@
 
 -- the errors of a text
 pub mod Errors
--- what a step of a pass does
-pub mod Steps
 -- what is told of a text that does not assemble
 pub mod Diagnoses
 -- the parts of a line
@@ -14,3 +12,5 @@ pub mod Kinds
 pub mod Findings
 -- the same as JSON
 pub mod Json
+-- what private clauses alone cite
+pub mod Private

@@ -5,10 +5,10 @@ ghost use Rattle.std.specs.List.{list_any};
 ghost use Rattle.std.specs.Str.{bytes_eq};
 ghost use Rattle.image.specs.Memory.{first_address};
 ghost use Rattle.assembler.specs.Places as places;
-ghost use Rattle.assembler.specs.Steps.{up_to};
+ghost use Rattle.assembler.specs.Private.Steps.{up_to};
 ghost use Rattle.diagnostics.specs.Errors as spec;
 ghost use Rattle.diagnostics.specs.Findings.{source_of};
-ghost use Rattle.diagnostics.specs.Steps.{LiesWithin};
+ghost use Rattle.diagnostics.specs.Private.Steps.{LiesWithin};
 
 use crate::reading::ReadLine;
 use assembler::AsmErrorKind;

@@ -184,7 +184,7 @@ impl Form {
         }
     }
 
-    /// What the operand at an index has to be, where there are so many. `None`: so many are not taken.
+    /// What the operand at an index has to be, of `count` operands. `None`: that many are not taken.
     pub(crate) fn kind_at(self, count: usize, index: usize) -> Option<Kind> {
         match (self, count) {
             (Form::Registers, 3) => Some(Kind::Register),

@@ -14,7 +14,7 @@ pub(crate) enum Misfit {
     Address,
     /// The target of its statement, which is this many bytes away, as a signed number of 32 bits.
     Target(u32),
-    /// It is not known which of both.
+    /// It is not known which of the two.
     Unknown,
 }
 

@@ -41,7 +41,7 @@ pub(crate) fn count_of(operands: &[u8]) -> usize {
         .saturating_add(1)
 }
 
-/// The operand of this index. `None`: there are not so many.
+/// The operand of this index. `None`: there are too few.
 pub(crate) fn operand_at(operands: &[u8], index: usize) -> Option<&[u8]> {
     let mut rest = Some(operands);
     let mut passed = 0;
@@ -90,7 +90,7 @@ pub(crate) fn blank_operand(operands: &[u8]) -> Option<(usize, &[u8])> {
     None
 }
 
-/// The first operand that the reader refuses with this error, as what the form wants there. `None`: each is right by itself, or so many
+/// The first operand that the reader refuses with this error, as what the form wants there. `None`: each is right by itself, or that many
 /// are not taken. `Err`: no memory was left.
 pub(crate) fn at_fault<'a>(
     alloc: Global,

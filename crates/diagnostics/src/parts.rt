@@ -94,7 +94,7 @@ fn is_label(field: &[u8]) -> bool
     is_name(without_leading_blanks(field))
 }
 
-/// A line from the label of an index on, if it has so many.
+/// A line from the label of an index on, if it has that many.
 pub(crate) fn label_part(line: &[u8], index: usize) -> &[u8] {
     let mut rest = without_comment(line);
     for _ in 0..index {

@@ -6,7 +6,7 @@ ghost use Rattle.image.specs.Lines.{labels_of};
 ghost use Rattle.image.specs.Memory.{first_address};
 ghost use Rattle.diagnostics.specs.Errors as spec;
 ghost use Rattle.diagnostics.specs.Findings.{errors_found, program_of, source_of};
-ghost use Rattle.diagnostics.specs.Steps as steps;
+ghost use Rattle.diagnostics.specs.Private.Steps as steps;
 
 use crate::addresses::{next_address, stands};
 use crate::found::{Found, Misfit, add_error, error_if};

@@ -6,7 +6,7 @@ ghost use Rattle.assembler.specs.Program.{kept};
 ghost use Rattle.statements.specs.Reading.{read};
 ghost use Rattle.diagnostics.specs.Errors as spec;
 ghost use Rattle.diagnostics.specs.Findings.{errors_found, program_of};
-ghost use Rattle.diagnostics.specs.Steps as steps;
+ghost use Rattle.diagnostics.specs.Private.Steps as steps;
 
 use crate::found::{Found, Misfit, add_error};
 use assembler::{AsmError, AsmErrorKind};

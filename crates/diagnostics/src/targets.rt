@@ -1,4 +1,4 @@
-//! The third pass: what the names in statements stand for, and how far targets are.
+//! The third pass: what the names in statements mean, and how far targets are.
 
 ghost use Rattle.std.specs.Prelude.{◌≡◌, ◌≤◌, ◌++◌, Some, IfOk, OnOk};
 ghost use Rattle.image.specs.Lines.{labels_of};
@@ -7,7 +7,7 @@ ghost use Rattle.assembler.specs.Contents as contents;
 ghost use Rattle.assembler.specs.Errors.{error_in};
 ghost use Rattle.diagnostics.specs.Errors as spec;
 ghost use Rattle.diagnostics.specs.Findings.{errors_found, program_of, source_of};
-ghost use Rattle.diagnostics.specs.Steps as steps;
+ghost use Rattle.diagnostics.specs.Private.Steps as steps;
 
 use crate::addresses::next_address;
 use crate::found::{Found, Misfit, add_error, error_if};

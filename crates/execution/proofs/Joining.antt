@@ -12,7 +12,7 @@ use Rattle.stepping.specs.declared.tick.Ran.{Ran}
 use Rattle.stepping.specs.declared.tick.RunEnd.TheVariants as run_end
 use Rattle.stepping.specs.declared.tick.Tick.{Tick}
 use Rattle.execution.specs.Executions.{Ends, EndsBefore, Goes, Made, Meets, line_of}
-use Rattle.execution.specs.Slices.{BreaksOff, Comes, IsSlice, PartComes, end_by}
+use Rattle.execution.specs.Private.Slices.{BreaksOff, Comes, IsSlice, PartComes, end_by}
 use Rattle.execution.specs.declared.end.ExecutionEnd.{ExecutionEnd}
 use Rattle.execution.specs.declared.end.ExecutionEnd.TheVariants.{Ended, Stopped, Limit, OutputLimit}
 
@@ -94,7 +94,7 @@ pub made_of : (most made : ℕ) (end : Option ExecutionEnd) (start after : Debug
 made_of most made None start after lines c = inl (made, c.1, c.2)
 made_of most made (Some end) start after lines c = inr (end, c)
 
--- so many that went with nothing printed, and one more with this outcome
+-- this many ticks with nothing printed, and one more with this outcome
 pub one_more : (n most : ℕ) (out : Outcome) (number : Option ℤ) (start middle after : Debugged) → n < most → GoesPlain n start middle
     → IsTick middle (Ok (record { printed = number; outcome = out })) after
     → (made : ℕ) → (end_by out ≡ None → made ≡ n + 1) → Comes most made (end_by out) start (line_of number) after
@@ -187,7 +187,7 @@ lacked most start after ran text text' r is same =
 
 -- ---- slices, one after the other
 
--- so many instructions of a slice, with their lines after a text
+-- this many instructions of a slice, with their lines after a text
 pub record SoFar (made : ℕ) (start after : Debugged) (text text' : List ℕ) : Type 0 where
   pub lines : List ℕ
   pub goes : Goes made start lines after

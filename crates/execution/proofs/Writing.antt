@@ -1,4 +1,4 @@
--- Slices of which the lines are written, one after the other.
+-- Slices whose lines are written, one after the other.
 use Rattle.std.proofs.Common.{◌≡◌, ℕ, suc, ◌+◌, ◌-◌, ◌<◌, ◌≤◌, ◌^◌, List, [], ◌∷◌, ◌++◌, length, take, Option, Some, None, Result, Ok, Err, inl, refl, sym, ap, subst, ◌∙◌, arith, append_assoc, length-append, length-take, take-take}
 use Rattle.std.proofs.Math.Nat.{min-le_left, min_comm}
 use Rattle.std.specs.Prelude.{IfOk, OnErr, min}
@@ -9,7 +9,7 @@ use Rattle.blocking_io.specs.Writing.{IsPartWritten}
 use Rattle.stepping.specs.Ticks.{Debugged}
 use Rattle.execution.proofs.Joining.{ends_within, goes_join, goes_retire, made_of, part_comes}
 use Rattle.execution.specs.Executions.{EndsBefore, Executes, Goes, IsGivenUp, IsUnwritten, IsWritten, LacksMemory, Made}
-use Rattle.execution.specs.Slices.{BreaksOff, Comes, GivesUp, IsSlice, PartComes, PartWritten, Writes}
+use Rattle.execution.specs.Private.Slices.{BreaksOff, Comes, GivesUp, IsSlice, PartComes, PartWritten, Writes}
 use Rattle.execution.specs.declared.end.ExecutionEnd.{ExecutionEnd}
 use Rattle.execution.specs.declared.end.ExecutionEnd.TheVariants.{Ended, Stopped, Limit, OutputLimit}
 use Rattle.execution.specs.declared.end.ExecutionFault.{ExecutionFault}
@@ -141,7 +141,7 @@ lacking most start after text text' before now none e w =
 
 -- ---- slices, one after the other
 
--- So many instructions, and their lines were written, after which there is room for so many bytes. No more than 2^62 will have retired after
+-- Instructions were made and their lines written, and there is room for `room` more bytes. No more than 2^62 will have retired after
 -- as many as are left.
 pub record SoWritten (limits : Limits) (left room : ℕ) (start after : Debugged) (before now : Option (List ℕ)) : Type 0 where
   pub few : left ≤ limits.instructions

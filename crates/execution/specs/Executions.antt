@@ -1,6 +1,6 @@
 -- The execution of a program without a debugger.
 --
--- A machine goes on, tick by tick, for as long as each tick goes on, and for no more ticks than are allowed. What it
+-- A machine runs tick by tick, for as long as each tick continues, and for no more ticks than are allowed. What it
 -- prints is a line for each number that an instruction prints: the number in decimal, with a `-` where it is negative,
 -- and a line feed. These lines are written, in the order in which they were printed; what logpoints would say is not.
 --
@@ -31,13 +31,13 @@ abbrev pub Does : Outcome → Debugged → List ℕ → Debugged → Type 0
 Does out before line after = (number : Option ℤ)
     × IsTick before (Ok (record { printed = number; outcome = out })) after × (line ≡ line_of number)
 
--- So many ticks, each of which went on, and the lines that they printed.
+-- This many ticks that all continued, and the lines that they printed.
 abbrev pub Goes : ℕ → Debugged → List ℕ → Debugged → Type 0
 Goes zero start lines after = (lines ≡ []) × (after ≡ start)
 Goes (suc ticks) start lines after = (before : Debugged) × (earlier : List ℕ) × (line : List ℕ)
     × Goes ticks start earlier before × Does outcome.Went before line after × (lines ≡ earlier ++ line)
 
--- So many ticks that went on, and one more with this outcome.
+-- This many ticks that continued, and one more with this outcome.
 pub record Meets (out : Outcome) (ticks : ℕ) (start : Debugged) (lines : List ℕ) (after : Debugged) : Type 0 where
   pub before : Debugged
   pub earlier : List ℕ
@@ -46,19 +46,19 @@ pub record Meets (out : Outcome) (ticks : ℕ) (start : Debugged) (lines : List 
   pub last : Does out before line after
   pub all : lines ≡ earlier ++ line
 
--- An execution ended so, before so many ticks were made.
+-- An execution ended so, before this many ticks were made.
 abbrev pub EndsBefore : ℕ → ExecutionEnd → Debugged → List ℕ → Debugged → Type 0
 EndsBefore most (Ended code) start lines after = (ticks : ℕ) × (ticks < most) × Meets (outcome.Ended code) ticks start lines after
 EndsBefore most (Stopped reason) start lines after = (ticks : ℕ) × (ticks < most) × Meets (outcome.Stopped reason) ticks start lines after
 EndsBefore most Limit start lines after = ⊥
 EndsBefore most OutputLimit start lines after = ⊥
 
--- some ticks of an execution for which so many are allowed: so many that went on, or up to its end
+-- some ticks of an execution that may make at most this many: all of them continued, or the last one ended it
 abbrev pub Made : ℕ → Debugged → List ℕ → Debugged → Type 0
 Made limit start lines after = ((ticks : ℕ) × (ticks ≤ limit) × Goes ticks start lines after)
     ⊎ ((end : ExecutionEnd) × EndsBefore limit end start lines after)
 
--- How an execution ends for which so many ticks are allowed: where too much was printed, after some of them.
+-- How an execution ends that may make this many ticks: where too much was printed, after some of them.
 abbrev pub Ends : ℕ → ExecutionEnd → Debugged → List ℕ → Debugged → Type 0
 Ends limit (Ended code) start lines after = EndsBefore limit (Ended code) start lines after
 Ends limit (Stopped reason) start lines after = EndsBefore limit (Stopped reason) start lines after
@@ -72,7 +72,7 @@ AllWritten bytes lines before now = (length lines ≤ bytes) × Appends before n
 abbrev pub FirstWritten : ℕ → List ℕ → Option (List ℕ) → Option (List ℕ) → Type 0
 FirstWritten bytes lines before now = (bytes < length lines) × Appends before now (take bytes lines)
 
--- what was written of the lines of an execution that ended so, for which so many bytes are allowed
+-- what was written of the lines of an execution that ended so, where this many bytes are allowed
 abbrev pub IsWritten : ℕ → ExecutionEnd → List ℕ → Option (List ℕ) → Option (List ℕ) → Type 0
 IsWritten bytes (Ended code) lines before now = AllWritten bytes lines before now
 IsWritten bytes (Stopped reason) lines before now = AllWritten bytes lines before now
@@ -93,7 +93,7 @@ pub record IsUnwritten (limit : ℕ) (start after : Debugged) (before now : Opti
   pub short : count < length lines
   pub written : Appends before now (take count lines)
 
--- The writer failed: the lines of some ticks were written, and those of the next ones, of which there are 100,000 at most, were not all.
+-- The writer failed: the lines of some ticks were written, and those of the next ones, at most 100,000, were not all.
 pub record FailsToWrite (limit : ℕ) (start after : Debugged) (before now : Option (List ℕ)) : Type 0 where
   pub ticks : ℕ
   pub lines : List ℕ
@@ -106,7 +106,7 @@ pub record FailsToWrite (limit : ℕ) (start after : Debugged) (before now : Opt
   pub within : ticks + next ≤ limit
   pub unwritten : IsUnwritten next middle after between now
 
--- No memory was left: fewer ticks were made than are allowed, each of which went on, and all of their lines were written.
+-- No memory was left: fewer ticks were made than are allowed, all of them continued, and all of their lines were written.
 pub record LacksMemory (limit : ℕ) (start after : Debugged) (before now : Option (List ℕ)) : Type 0 where
   pub ticks : ℕ
   pub below : ticks < limit

@@ -24,7 +24,7 @@ no_memory = codes ", where no memory is"
 abbrev pub no_multiple : ℕ → List ℕ
 no_multiple unit = codes ", which is no multiple of " ++ decimal unit
 
--- what a program did wrong that stands at pc, where this text stands for what is there
+-- what a program that stands at pc did wrong, where this text says what is there
 abbrev pub words : Fault → ℕ → List ℕ → List ℕ
 words WentOutside pc text = codes "the program went to " ++ address_text pc ++ no_memory
 words Empty pc text = codes "there is no instruction"

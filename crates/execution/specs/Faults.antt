@@ -1,6 +1,6 @@
--- What a program did wrong where an instruction trapped, as far as it is to be seen from where it stands.
+-- What a program did wrong where an instruction trapped, as far as can be seen from where it stands.
 --
--- Where another word stands in a line's code than its image has, the program wrote over the instruction, whatever came of that.
+-- Where another word stands in a line's code than its image has, the program wrote over the instruction, whatever that led to.
 -- Else it went to where no memory is; or a word that is no instruction stands there, since it ran past the last line or into
 -- data; or the address that its instruction uses is none, or no multiple of what it has to be; or a7 has the number of no call.
 use Rattle.std.specs.Prelude.{◌≡◌, ℕ, ◌+◌, ◌-◌, Bool, false, not, ◌==◌, nat_lt, if◌then◌else◌, List, length, take, drop}
@@ -83,6 +83,6 @@ abbrev pub IsFaultBy : Result ℕ MemFault → Loaded → Cause → Option Fault
 IsFaultBy (Err none) loaded cause fault = fault ≡ fault_without_word cause
 IsFaultBy (Ok word) loaded cause fault = (instr : Option Instr) × IsDecoding word instr × (fault ≡ fault_at loaded cause word instr)
 
--- what a program did wrong that trapped for this cause, if that is to be seen
+-- what a program did wrong that trapped for this cause, if that can be seen
 abbrev pub IsFault : Loaded → Cause → Option Fault → Type 0
 IsFault loaded cause fault = IsFaultBy (word_at loaded.runner.memory loaded.runner.hart.pc) loaded cause fault

@@ -8,12 +8,12 @@ use Rattle.execution.specs.Executions.{Ends}
 use Rattle.execution.specs.declared.end.ExecutionEnd.{ExecutionEnd}
 use Rattle.execution.specs.declared.end.ExecutionEnd.TheVariants.{Ended, Stopped, Limit, OutputLimit}
 
--- no reason to stop had applied until so many ticks were made
+-- no reason to stop had applied until this many ticks were made
 abbrev pub WentOn : ℕ → Debugged → Debugged → Type 0
 WentOn zero start after = after ≡ start
 WentOn (suc ticks) start after = Says (number_after ticks start) outcome.Went start after
 
--- where an execution stopped by itself that ended so, before so many ticks were made, and what it left
+-- where an execution that ended so stopped by itself, before this many ticks were made, and what it left
 abbrev pub StopsBefore : ℕ → ExecutionEnd → Debugged → Debugged → Type 0
 StopsBefore limit (Ended code) start after = (ticks : ℕ) × (ticks < limit) × Says (number_after ticks start) (outcome.Ended code) start after
 StopsBefore limit (Stopped reason) start after = (ticks : ℕ) × (ticks < limit) × Says (number_after ticks start) (outcome.Stopped reason) start after

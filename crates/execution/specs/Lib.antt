@@ -20,6 +20,5 @@ pub mod Registers
 pub mod Traces
 -- an execution ends where a run stops
 pub mod Laws
--- ---- what only private clauses cite
--- how the code goes, slice by slice
-pub mod Slices
+-- what private clauses alone cite
+pub mod Private

@@ -18,7 +18,7 @@ value_text value = codes " " ++ address_text value ++ codes " " ++ signed_decima
 abbrev pub register_line : List ℕ → ℕ → List ℕ
 register_line name value = name ++ value_text value ++ codes "\n"
 
--- the lines of the registers from this number on, of which these are the values
+-- the lines of the registers from this number on, with these values
 abbrev pub lines_from : ℕ → List ℕ → List ℕ
 lines_from number [] = []
 lines_from number (value ∷ values) = register_line (name_of number) value ++ lines_from (suc number) values

@@ -4,7 +4,7 @@
 --   FILE:LINE: WHY at 0xADDRESS (LABEL+BYTES)
 --   the line itself
 --
--- and where it is to be seen what the program did wrong
+-- and where it can be seen what the program did wrong
 --
 --   FILE:LINE: WHY: FAULT
 --   the line itself

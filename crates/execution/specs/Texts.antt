@@ -1,4 +1,4 @@
--- The texts of a program, one after the other, of which each begins on a line of its own.
+-- The texts of a program, one after the other; each begins on a line of its own.
 --
 -- A text may lack its last line feed: the next one then follows a line feed that is put between them.
 use Rattle.std.specs.Prelude.{◌≡◌, ℕ, suc, ◌+◌, ◌-◌, Bool, ◌==◌, ◌||◌, nat_le, if◌then◌else◌, List, [], ◌∷◌, ◌++◌, length}
@@ -8,7 +8,7 @@ use Rattle.std.specs.Prelude.{slice_index, count_by, codes, refl}
 abbrev pub is_whole : List ℕ → Bool
 is_whole text = (length text == 0) || (slice_index text (length text - 1) == 10)
 
--- so many texts are the whole, and these follow
+-- the texts before, joined, and then these
 abbrev pub joined_after : List ℕ → List (List ℕ) → List ℕ
 joined_after whole [] = whole
 joined_after whole (text ∷ texts) = joined_after ((if is_whole whole then whole else whole ++ 10 ∷ []) ++ text) texts
@@ -20,7 +20,7 @@ joined texts = joined_after [] texts
 abbrev pub line_count : List ℕ → ℕ
 line_count text = count_by (λ byte. byte == 10) text + (if is_whole text then 0 else 1)
 
--- the text in which a line stands, after so many texts, and which line of that it is
+-- the text in which a line stands, after this many texts, and which line of that it is
 abbrev pub place_after : ℕ → List (List ℕ) → ℕ → ℕ × ℕ
 place_after passed [] line = (passed, line)
 place_after passed (text ∷ texts) line = if nat_le line (line_count text) then (passed, line)

@@ -94,7 +94,7 @@ Ticks before after = (tick : Tick) × IsTick before (Ok tick) after
 abbrev pub Adds : Debugged → List ℕ → List ℕ → Debugged → Type 0
 Adds before text text' after = Ticks before after × AddsLine (word_here before) before.hart after.hart text text'
 
--- so many ticks and their lines
+-- this many ticks and their lines
 abbrev pub Traced : ℕ → Debugged → List ℕ → Debugged → Type 0
 Traced zero start told after = (told ≡ []) × (after ≡ start)
 Traced (suc n) start told after = (before : Debugged) × (earlier : List ℕ) × Traced n start earlier before × Adds before earlier told after
@@ -103,7 +103,7 @@ Traced (suc n) start told after = (before : Debugged) × (earlier : List ℕ) ×
 abbrev pub begun : Goal → Debugged → Debugged
 begun goal d = record d { goal = goal; start = d.calls.depth; check_due = false }
 
--- so many moves are undone
+-- this many moves are undone
 abbrev pub WentBack : ℕ → Debugged → Debugged → Type 0
 WentBack zero start after = after ≡ start
 WentBack (suc n) start after = (before : Debugged) × WentBack n start before × Ticks (begun Back before) after

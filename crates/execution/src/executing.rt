@@ -1,10 +1,10 @@
-//! A machine that goes on to its end.
+//! A machine that runs to its end.
 
 ghost use Rattle.std.specs.Prelude.{◌≡◌, ◌+◌, ◌^◌, ◌<◌, ◌≤◌, IfErr, IfOk, Some, length, take};
 ghost use Rattle.std.specs.Io.KnownBytes.{Appends};
 ghost use Rattle.blocking_io.specs.Writing.{IsPartWritten};
 ghost use Rattle.execution.specs.Executions.{Executes, IsGivenUp};
-ghost use Rattle.execution.specs.Slices.{GivesUp, Writes};
+ghost use Rattle.execution.specs.Private.Slices.{GivesUp, Writes};
 
 use crate::end::{ExecutionEnd, ExecutionFault};
 use crate::slices::run_slice;
@@ -13,7 +13,7 @@ use std::alloc::Global;
 use std::io::Write;
 use stepping::Runner;
 
-/// After so many instructions, and at the end, what was printed meanwhile is written.
+/// After this many instructions, and at the end, what was printed meanwhile is written.
 const SLICE: u64 = 100_000;
 
 /// How much a program may do.
@@ -25,8 +25,8 @@ pub struct Limits {
     pub bytes: u64,
 }
 
-/// Lets a machine go on until it ends or stops, for so many instructions at most, and writes the numbers that it prints, each in decimal
-/// on a line. They are written after each 100,000 instructions, and at the end. Where they are more bytes than are allowed, it ends after the
+/// Lets a machine run until it ends or stops, for as many instructions as are allowed, and writes the numbers that it prints, in decimal
+/// on lines. They are written after each 100,000 instructions, and at the end. Where they exceed the allowed bytes, it ends after the
 /// instruction that printed too much, and as many bytes as are allowed are written. No more than 2^62 instructions will have retired.
 ///
 /// - `Write`: the writer failed. It has all that was printed before the last 100,000 instructions or fewer, and of what these printed the
@@ -63,18 +63,18 @@ pub fn execute<W: Write>(
     Ok(ExecutionEnd::Limit)
 }
 
-// What came of some instructions in a row, of which the lines were written.
+// Instructions in a row whose lines were written.
 #[derive(Clone, Copy)]
 struct Part {
-    /// How many went.
+    /// How many were made, where the execution has not ended.
     made: u32,
-    /// How the execution ended; `None`: it goes on.
+    /// How the execution ended; `None`: it continues.
     end: Option<ExecutionEnd>,
     /// How many bytes were written.
     bytes: u64,
 }
 
-// A slice of so many instructions at most, and what it printed, written, of which so many bytes may be.
+// A slice of at most `most` instructions; what it printed is written, at most `room` bytes.
 fn write_slice<W: Write>(
     alloc: Global,
     runner: &mut Runner,
@@ -107,7 +107,7 @@ fn write_slice<W: Write>(
     }
 }
 
-// The first bytes of lines, of which there are more.
+// The first `room` bytes of lines that are longer.
 fn write_first<W: Write>(writer: &mut W, lines: &[u8], room: u64) -> Result<Part, ExecutionFault>
     requires { room < length lines.now }
     ensures end { IfOk result (λ part. part.end ≡ Some ExecutionEnd.OutputLimit) }

@@ -18,7 +18,7 @@ pub fn fault_text(alloc: Global, fault: Fault, pc: u32, word: u32) -> Result<Str
     words(alloc, fault, pc, text.as_str())
 }
 
-// The same, where this text stands for the word.
+// The same, where this text says what the word is.
 fn words(alloc: Global, fault: Fault, pc: u32, text: &str) -> Result<String, AllocError>
     ensures { IfOk result (λ told. string_bytes told ≡ spec.words fault pc text.now) }
 {

@@ -29,7 +29,7 @@ pub enum Fault {
     UnknownCall(u32),
 }
 
-/// What the program did wrong that trapped for this cause; `None`: that is not to be seen from where it stands.
+/// What the program did wrong that trapped for this cause; `None`: that cannot be seen from where it stands.
 pub fn fault_of(loaded: &Loaded, cause: Cause) -> Option<Fault>
     ensures { spec.IsFault loaded.now cause result }
 {

@@ -1,4 +1,4 @@
-//! The execution of a program without a debugger: it goes on to its end, and what it prints is written.
+//! The execution of a program without a debugger: it runs to its end, and what it prints is written.
 #![tactic(auto)]
 
 mod end;

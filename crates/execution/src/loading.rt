@@ -25,7 +25,7 @@ pub struct Loaded {
 }
 
 /// Assembles a text for `size` bytes of memory, a multiple of 4,096 from 4,096 to 16,777,216, and loads it into a machine that has as
-/// many: no instruction has retired, there are no breakpoints, and it goes on without a goal. The errors are those of `assemble`; that of
+/// many: no instruction has retired, there are no breakpoints, and it continues without a goal. The errors are those of `assemble`; that of
 /// no memory also says that none was left for the machine.
 pub fn load(alloc: Global, text: &[u8], size: u32) -> Result<Loaded, AsmError>
     requires whole { size % 4096 ≡ 0 }

@@ -3,24 +3,24 @@
 ghost use Rattle.std.specs.Prelude.{◌≡◌, ◌+◌, ◌^◌, ◌≤◌, ◌++◌, None, IfOk, OnErr, string_bytes, string_len};
 ghost use Rattle.std.specs.String.{string_capacity};
 ghost use Rattle.execution.specs.Executions.{line_of};
-ghost use Rattle.execution.specs.Slices.{BreaksOff, IsSlice, end_by};
+ghost use Rattle.execution.specs.Private.Slices.{BreaksOff, IsSlice, end_by};
 
 use crate::end::ExecutionEnd;
 use itoa::Buffer;
 use std::alloc::AllocError;
 use stepping::{Outcome, RunEnd, Runner};
 
-/// What came of some instructions in a row.
+/// Instructions in a row.
 #[derive(Clone, Copy)]
 pub(crate) struct Slice {
-    /// How many went.
+    /// How many were made, where the execution has not ended.
     pub made: u32,
-    /// How the execution ended with one more; `None`: it goes on.
+    /// How the execution ended; `None`: it continues.
     pub end: Option<ExecutionEnd>,
 }
 
-/// So many instructions, or fewer where the execution ends before, or where the lines are more than so many bytes. They are put after those
-/// that are there. `Err`: no memory was left for one more, as for a page of the machine's memory; the lines of those that were made are there.
+/// Runs `most` instructions, or fewer where the execution ends before, or where the lines exceed `room` bytes. They are put after those
+/// that are there. `Err`: no memory was left for one more, as for a page of the machine's memory; the lines of those made are there.
 pub(crate) fn run_slice(
     runner: &mut Runner,
     most: u32,
@@ -56,8 +56,8 @@ pub(crate) fn run_slice(
 // The longest line of a number, in bytes: `-2147483648` and a line feed.
 const LONGEST_LINE: usize = 12;
 
-// So many instructions at most, up to the first of which there is something to report. Room for its line is made first: what an
-// instruction printed that was made is never lost.
+// At most `most` instructions, up to the first with something to report. Room for its line is made first, so that nothing that
+// was printed is lost.
 fn stretch(runner: &mut Runner, most: u32, lines: &mut String) -> Result<Slice, AllocError>
     requires some { 1 ≤ most }
     requires few { runner.old.retired + most ≤ 2 ^ 62 }
@@ -81,7 +81,7 @@ fn stretch(runner: &mut Runner, most: u32, lines: &mut String) -> Result<Slice, 
     }
 }
 
-// So many went, and then one more with this outcome.
+// `went` instructions continued, and then one had this outcome.
 fn slice_to(went: u32, outcome: Outcome) -> Slice
     requires { went + 1 ≤ 4294967295 }
     ensures end { result.end ≡ end_by outcome }

@@ -19,7 +19,7 @@ pub struct Stop<'a> {
     pub source: Option<&'a str>,
     /// What happened, as `load access fault`.
     pub why: &'a str,
-    /// What the program did wrong, if that is to be seen.
+    /// What the program did wrong, if that can be seen.
     pub fault: Option<&'a str>,
 }
 

@@ -1,4 +1,4 @@
-//! The texts of a program, one after the other, of which each begins on a line of its own.
+//! The texts of a program, one after the other; each begins on a line of its own.
 
 ghost use Rattle.std.specs.Prelude.{◌≡◌, IfOk};
 ghost use Rattle.execution.specs.Texts as spec;

@@ -11,7 +11,7 @@ use rv32i::{Hart, Instr, Reg, decode, destination, push_digits, reg_name, text_o
 use std::alloc::{AllocError, Global};
 use stepping::{Goal, Runner};
 
-/// The last instructions that retired, at most so many and at most 65,536, the oldest first: of each a line with its address and its text, the
+/// The last instructions that retired, at most `count` and at most 65,536, the oldest first: for each a line with its address and text, the
 /// address that it read or wrote, and the register that it loaded, computed or stored. The machine goes back for that, and forward again.
 /// At most 2^61 instructions have retired. `Err`: no memory was left.
 pub fn trace_text(alloc: Global, runner: &mut Runner, count: u32) -> Result<String, AllocError>
@@ -31,7 +31,7 @@ fn steps_of(runner: &Runner, count: u32) -> u32
     runner.recorded().min(count as usize) as u32
 }
 
-// Undoes so many moves.
+// Undoes this many moves.
 fn go_back(runner: &mut Runner, steps: u32) -> Result<(), AllocError>
     ensures back { OnOk result (spec.WentBack steps runner.old runner.new) }
     ensures retired { OnOk result (runner.new.retired ≤ runner.old.retired) }
@@ -45,7 +45,7 @@ fn go_back(runner: &mut Runner, steps: u32) -> Result<(), AllocError>
     Ok(())
 }
 
-// Makes so many moves, and tells each.
+// Makes this many moves, and tells each.
 fn steps_text(alloc: Global, runner: &mut Runner, steps: u32) -> Result<String, AllocError>
     requires { runner.old.retired ≤ 2 ^ 61 }
     ensures { IfOk result (λ told. spec.Traced steps runner.old (string_bytes told) runner.new) }

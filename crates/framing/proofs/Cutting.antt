@@ -1,12 +1,5 @@
 -- A stream that was cut reads as the whole.
-use Rattle.std.proofs.Common.{◌≡◌, ℕ, ◌+◌, ◌<◌, ◌≤◌, zero, suc, Bool, true, false, cond, ltb, List, ◌++◌, length, take, drop, Some, None, refl, sym, ap, ◌∙◌, arith, length-append}
-use Rattle.std.proofs.lemmas.List.{drop-append-le, take-append-le, length-drop}
-use Rattle.std.proofs.lemmas.Bool.Decides.{nat_tests}
-use Rattle.framing.specs.Reading.{Reading, start_of, reading_of, with_body, with_bodies}
-use Rattle.framing.specs.Parts.{parts_of, tail_by}
-use Rattle.framing.specs.Streams.{reading_after}
-use Rattle.framing.specs.declared.start.Start.{Start}
-use Rattle.framing.specs.declared.start.Start.TheVariants.{Waits, Breaks, Begins}
+use Rattle.framing.proofs.Common.{ap, arith, Begins, Bool, Breaks, cond, drop, drop-append-le, false, length, length-append, length-drop, List, ltb, nat_tests, None, parts_of, Reading, reading_after, reading_of, refl, Some, Start, start_of, suc, sym, tail_by, take, take-append-le, true, Waits, with_bodies, with_body, zero, ℕ, ◌++◌, ◌+◌, ◌<◌, ◌∙◌, ◌≡◌, ◌≤◌}
 use Rattle.framing.proofs.Readings.{starts_keep, is_waiting, reading_none, reading_some, Parted, some_of, some_parts, begins_size}
 
 -- a whole frame stays one

@@ -1,12 +1,6 @@
 -- Where a header part ends: where CR LF CR LF stands.
-use Rattle.std.proofs.Common.{◌≡◌, ℕ, ◌+◌, ◌-◌, ◌<◌, ◌≤◌, zero, suc, Bool, true, false, cond, ◌&&◌, eqb, leb, List, [], ◌∷◌, ◌++◌, length, get_or, Option, Some, None, refl, sym, ap, ◌∙◌, arith, length-append, ◌⊎◌}
-use Rattle.std.specs.Option.{option_map}
-use Rattle.std.proofs.lemmas.List.{get_or_append_left}
+use Rattle.framing.proofs.Common.{[], ap, arith, begins_with_end, Bool, cond, end_of, EndsPast, eqb, false, get_or, get_or_append_left, leb, length, length-append, List, nat_tests, None, Option, option_map, refl, size_by, size_of, Some, suc, sym, true, zero, ℕ, ◌&&◌, ◌++◌, ◌+◌, ◌-◌, ◌<◌, ◌∙◌, ◌∷◌, ◌≡◌, ◌≤◌, ◌⊎◌}
 use Rattle.std.proofs.lemmas.Bool.{false≢true}
-use Rattle.std.proofs.lemmas.Bool.Decides.{nat_tests}
-use Rattle.framing.specs.Headers.{begins_with_end, end_of}
-use Rattle.framing.specs.Reading.{size_of, size_by}
-use Rattle.framing.specs.Lines.{EndsPast}
 
 -- the four bytes from an index on are CR LF CR LF
 pub record MarkAt (bytes : List ℕ) (at : ℕ) : Type 0 where
@@ -21,18 +15,13 @@ four a b c d h = (grind (arith, nat_tests), grind (arith, nat_tests), grind (ari
 
 mark_first : (bytes : List ℕ) → begins_with_end bytes ≡ true → MarkAt bytes 0
 mark_first [] h = absurd (false≢true h)
-mark_first (a ∷ []) h = absurd (false≢true h)
-mark_first (a ∷ b ∷ []) h = absurd (false≢true h)
-mark_first (a ∷ b ∷ c ∷ []) h = absurd (false≢true h)
 mark_first (a ∷ b ∷ c ∷ d ∷ bytes) h =
     let q = four a b c d h in record { first = q.0; second = q.1; third = q.2; fourth = q.3; room = omega arith }
+mark_first _ h = absurd (false≢true h)
 
 begins_there : (bytes : List ℕ) → MarkAt bytes 0 → begins_with_end bytes ≡ true
-begins_there [] m = absurd (omega (arith, m.room))
-begins_there (a ∷ []) m = absurd (omega (arith, m.room))
-begins_there (a ∷ b ∷ []) m = absurd (omega (arith, m.room))
-begins_there (a ∷ b ∷ c ∷ []) m = absurd (omega (arith, m.room))
 begins_there (a ∷ b ∷ c ∷ d ∷ bytes) m = rw (m.first, m.second, m.third, m.fourth) refl
+begins_there _ m = absurd (omega (arith, m.room))
 
 at_later : (b : ℕ) (bytes : List ℕ) (at k : ℕ) → get_or (b ∷ bytes) (suc at + k) 0 ≡ get_or bytes (at + k) 0
 at_later b bytes at k = let e : suc at + k ≡ suc (at + k) = omega arith in ap (λ i. get_or (b ∷ bytes) i 0) e
@@ -150,7 +139,7 @@ not_fourth bytes i none at e m = none (ap (λ n. get_or bytes n 0) e ∙ m.fourt
 pub past_nothing : (bytes : List ℕ) → EndsPast 0 bytes
 past_nothing bytes size e = let m = mark_at bytes size e in omega (arith, m.1)
 
--- more bytes after these, and the marks of before
+-- more bytes after these, and the earlier marks
 keeps_mark : (a b : List ℕ) (at : ℕ) → MarkAt a at → MarkAt (a ++ b) at
 keeps_mark a b at m =
     let room : at + 4 ≤ length a = m.room in

@@ -1,14 +1,6 @@
 -- The fault of a stream, as a statement and as it is read.
-use Rattle.std.proofs.Common.{◌≡◌, ℕ, ◌-◌, ◌<◌, ◌≤◌, Bool, true, false, cond, ltb, leb, List, [], ◌∷◌, ◌++◌, length, take, Option, Some, None, Result, Ok, Err, refl, sym, ap, ◌∙◌, subst, arith}
-use Rattle.std.specs.List.{list_all}
-use Rattle.std.proofs.lemmas.Bool.Decides.{nat_tests}
-use Rattle.framing.specs.Headers.{Field, SaysLength, end_of, header_of, is_field, length_fields}
-use Rattle.framing.specs.Frames.{HasHeader, HasFields, Fault}
-use Rattle.framing.specs.Reading.{size_of, size_by, start_by, start_at, start_of, content_length, length_by, length_among, length_or_fault, number_in, fields_in, lines_of}
-use Rattle.byte_strings.specs.Blanks.{trimmed}
-use Rattle.framing.specs.declared.error.FrameError.{FrameError}
-use Rattle.framing.specs.declared.error.FrameError.TheVariants.{Header, NoLength, TwoLengths, BadLength, TooLong, HeaderTooLong, NoMemory}
-use Rattle.framing.specs.declared.start.Start.TheVariants.{Waits, Breaks, Begins}
+use Rattle.framing.proofs.Common.{[], ap, arith, BadLength, Begins, Bool, Breaks, cond, content_length, end_of, Err, false, Fault, Field, fields_in, FrameError, HasFields, HasHeader, Header, header_of, HeaderTooLong, is_field, leb, length, length_among, length_by, length_fields, length_or_fault, lines_of, List, list_all, ltb, nat_tests, NoLength, NoMemory, None, number_in, Ok, Option, refl, Result, SaysLength, size_by, size_of, Some, start_at, start_by, subst, sym, take, TooLong, trimmed, true, TwoLengths, Waits, ℕ, ◌++◌, ◌-◌, ◌<◌, ◌∙◌, ◌∷◌, ◌≡◌, ◌≤◌}
+use Rattle.framing.specs.Reading.{start_of}
 use Rattle.framing.proofs.Ends.{by_end}
 use Rattle.framing.proofs.Values.{says_from_number, number_from_says}
 use Rattle.framing.proofs.Fields.{lines_are, fields_are}

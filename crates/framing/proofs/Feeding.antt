@@ -1,16 +1,6 @@
 -- What is kept of a stream after a piece.
-use Rattle.std.proofs.Common.{◌≡◌, ℕ, ◌-◌, ◌⊎◌, inl, inr, Bool, true, false, cond, ltb, leb, List, [], ◌∷◌, ◌++◌, length, take, drop, Option, Some, None, IsSome, Result, Ok, Err, refl, sym, ap, ◌∙◌}
-use Rattle.std.proofs.lemmas.List.{append-nil}
-use Rattle.framing.specs.Headers.{Field, length_fields}
-use Rattle.framing.specs.Reading.{Reading, Tail, size_of, start_by, start_at, start_of, content_length, length_by, length_among, length_or_fault, number_in, fields_in, lines_of, reading_of}
-use Rattle.byte_strings.specs.Blanks.{trimmed}
-use Rattle.framing.specs.Reading.Tail.{Partial, Faulty}
-use Rattle.framing.specs.Parts.{tail_by, is_broken}
-use Rattle.framing.specs.Streams.{Before, Unframed, fed, fault_of, Feeds}
-use Rattle.framing.specs.declared.error.FrameError.{FrameError}
-use Rattle.framing.specs.declared.error.FrameError.TheVariants.{Header, NoLength, TwoLengths, BadLength, TooLong, HeaderTooLong, NoMemory}
-use Rattle.framing.specs.declared.start.Start.{Start}
-use Rattle.framing.specs.declared.start.Start.TheVariants.{Waits, Breaks, Begins}
+use Rattle.framing.proofs.Common.{[], ap, append-nil, BadLength, Before, Begins, Bool, Breaks, cond, content_length, drop, Err, false, fault_of, Faulty, fed, Feeds, Field, fields_in, FrameError, Header, HeaderTooLong, inl, inr, is_broken, IsSome, leb, length, length_among, length_by, length_fields, length_or_fault, lines_of, List, ltb, NoLength, NoMemory, None, number_in, Ok, Option, Partial, Reading, reading_of, refl, Result, size_of, Some, Start, start_at, start_by, sym, Tail, tail_by, take, TooLong, trimmed, true, TwoLengths, Unframed, Waits, ℕ, ◌++◌, ◌-◌, ◌∙◌, ◌∷◌, ◌≡◌, ◌⊎◌}
+use Rattle.framing.specs.Reading.{start_of}
 use Rattle.framing.proofs.Readings.{is_waiting}
 
 pub not_broken : (s : Start) → ((fault : FrameError) → s ≡ Breaks fault → ⊥) → is_broken s ≡ false
@@ -91,7 +81,7 @@ fed_is limit waiting (Breaks fault) rest piece before bodies tail whole h = absu
   not_false : true ≡ false → ⊥
   not_false e = cc
 
--- The bodies that wait now, how the next frame starts and what came of it, and what the mark goes back to, are what a
+-- The bodies that wait now, how the next frame starts and its part that came, and what the mark goes back to, are what a
 -- piece makes of the bodies that waited and of what had come.
 pub record Went (limit : ℕ) (waiting : List (List ℕ)) (start : Start) (rest piece : List ℕ) (now : List (List ℕ)) (next : Start) (left : ℕ)
     (waited : List (List ℕ)) (prefix : List ℕ) : Type 0 where
@@ -104,7 +94,7 @@ pub record Went (limit : ℕ) (waiting : List (List ℕ)) (start : Start) (rest 
   pub waited_is : waited ≡ waiting
   pub prefix_is : prefix ≡ rest
 
--- what has come of the next frame, after the whole ones
+-- the part of the next frame that has come, after the whole ones
 abbrev after_frames : ℕ → List ℕ → List ℕ
 after_frames left bytes = drop (length bytes - left) bytes
 
@@ -122,13 +112,8 @@ went_fed limit waiting start rest piece before now next left waited prefix tail 
 -- a fault is answered
 feeds_fault : (T : Type 0) (old : Unframed) (piece : List ℕ) (new : Unframed) (fault : FrameError) → new ≡ fed old piece
     → fault_of new.tail ≡ Some fault → (fault ≡ NoMemory → new ≡ old) → Feeds {T = T} old piece (Err fault) new
-feeds_fault T old piece new Header e f m = (e, f)
-feeds_fault T old piece new NoLength e f m = (e, f)
-feeds_fault T old piece new TwoLengths e f m = (e, f)
-feeds_fault T old piece new BadLength e f m = (e, f)
-feeds_fault T old piece new TooLong e f m = (e, f)
-feeds_fault T old piece new HeaderTooLong e f m = (e, f)
 feeds_fault T old piece new NoMemory e f m = m refl
+feeds_fault T old piece new _ e f m = (e, f)
 
 -- a piece that brings a fault: what has come after it does not matter
 broken_tail : (next : Start) (fault : FrameError) (a b : List ℕ) → next ≡ Breaks fault → tail_by next a ≡ tail_by next b

@@ -1,13 +1,5 @@
 -- Header parts and their fields.
-use Rattle.std.proofs.Common.{◌≡◌, ℕ, ◌+◌, ◌<◌, suc, Bool, true, false, cond, not, ◌&&◌, eqb, ltb, List, [], ◌∷◌, ◌++◌, length, get_or, take, drop, map, Option, Some, None, refl, sym, ap, ◌∙◌, subst, arith, append_assoc, length-append}
-use Rattle.std.specs.List.{list_all, flat_map, position, prefix_len}
-use Rattle.std.specs.Option.{option_map}
-use Rattle.std.proofs.lemmas.List.{take_at, drop_at, drop_more, take-append-drop}
-use Rattle.std.proofs.lemmas.Bool.Decides.{nat_tests}
-use Rattle.framing.specs.Headers.{Field, end_of_line, line_of, header_of, is_name_byte, is_value_byte, is_name, is_field, begins_with_end, end_of}
-use Rattle.framing.specs.Reading.{field_of, field_at, field_in, with_field, fields_in, onto_first, lines_of}
-use Rattle.byte_strings.proofs.Conjunctions.{and_left, and_right}
-use Rattle.byte_strings.proofs.Conjunctions.{and_both, all_append}
+use Rattle.framing.proofs.Common.{[], all_append, and_both, and_left, and_right, ap, append_assoc, arith, begins_with_end, Bool, cond, drop, drop_at, drop_more, end_of, end_of_line, eqb, false, Field, field_at, field_in, field_of, fields_in, flat_map, get_or, header_of, is_field, is_name, is_name_byte, is_value_byte, length, length-append, line_of, lines_of, List, list_all, ltb, map, nat_tests, None, not, onto_first, Option, option_map, position, prefix_len, refl, Some, subst, suc, sym, take, take-append-drop, take_at, true, with_field, ℕ, ◌&&◌, ◌++◌, ◌+◌, ◌<◌, ◌∙◌, ◌∷◌, ◌≡◌}
 
 -- the text of a field, without the end of its line
 abbrev pub text_of_field : Field → List ℕ
@@ -125,12 +117,10 @@ step_no : (c : ℕ) (bytes : List ℕ) → begins_with_end (c ∷ bytes) ≡ fal
 step_no c bytes h = rw h refl
 
 no_cr_begin : (c : ℕ) (bytes : List ℕ) → not_cr c ≡ true → begins_with_end (c ∷ bytes) ≡ false
-no_cr_begin c [] h = refl
-no_cr_begin c (b ∷ []) h = refl
-no_cr_begin c (b ∷ d ∷ []) h = refl
 no_cr_begin c (b ∷ d ∷ e ∷ bytes) h = let t : eqb c 13 ≡ false = grind (arith, nat_tests) in rw t refl
+no_cr_begin c _ h = refl
 
--- so many bytes further on
+-- `n` bytes further on
 abbrev further : ℕ → Option ℕ → Option ℕ
 further n None = None
 further n (Some size) = Some (n + size)

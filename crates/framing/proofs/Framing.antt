@@ -1,16 +1,5 @@
 -- Streams of frames, as statements and as they are read.
-use Rattle.std.proofs.Common.{◌≡◌, ℕ, ◌+◌, ◌<◌, ◌≤◌, zero, suc, Bool, true, false, cond, ltb, List, [], ◌∷◌, ◌++◌, length, take, drop, Some, None, refl, sym, ap, ◌∙◌, subst, arith, append_assoc, length-append}
-use Rattle.std.proofs.lemmas.List.{take_at, drop_at, take-append-drop, append-nil, length-take-le, append_cancel_left, append_cancel_right, drop-drop, length-drop}
-use Rattle.std.proofs.lemmas.Bool.Decides.{nat_tests}
-use Rattle.framing.specs.Headers.{Head}
-use Rattle.framing.specs.Frames.{Frame, AreFrames, Framed, Fault}
-use Rattle.framing.specs.Reading.{Reading, Tail, start_of, reading_of, with_body, with_bodies}
-use Rattle.framing.specs.Reading.Tail.{Partial, Faulty}
-use Rattle.framing.specs.Parts.{parts_of, tail_by}
-use Rattle.framing.specs.Streams.{TailIs, Reads}
-use Rattle.framing.specs.declared.error.FrameError.{FrameError}
-use Rattle.framing.specs.declared.start.Start.{Start}
-use Rattle.framing.specs.declared.start.Start.TheVariants.{Waits, Breaks, Begins}
+use Rattle.framing.proofs.Common.{[], ap, append-nil, append_assoc, append_cancel_left, append_cancel_right, AreFrames, arith, Begins, Bool, Breaks, cond, drop, drop-drop, drop_at, false, Fault, Faulty, Frame, Framed, FrameError, Head, length, length-append, length-drop, length-take-le, List, ltb, nat_tests, None, Partial, parts_of, Reading, reading_of, Reads, refl, Some, Start, start_of, subst, suc, sym, Tail, tail_by, TailIs, take, take-append-drop, take_at, true, Waits, with_bodies, with_body, zero, ℕ, ◌++◌, ◌+◌, ◌<◌, ◌∙◌, ◌∷◌, ◌≡◌, ◌≤◌}
 use Rattle.framing.proofs.Readings.{reading_none, reading_some, Parted, some_of, some_none, some_parts, begins_size}
 use Rattle.framing.proofs.Heads.{head_starts, head_from_start}
 use Rattle.framing.proofs.Faults.{fault_read, fault_from_start}

@@ -1,15 +1,6 @@
 -- How a frame starts, and what its header part is.
-use Rattle.std.proofs.Common.{◌≡◌, ℕ, ◌+◌, ◌-◌, ◌≤◌, Bool, true, false, cond, leb, List, [], ◌∷◌, ◌++◌, length, take, drop, Option, Some, None, Result, Ok, Err, refl, sym, ap, ◌∙◌, subst, arith, append_assoc, length-append}
-use Rattle.std.specs.List.{list_all}
-use Rattle.std.proofs.lemmas.List.{take_at, drop_more, take-append-drop, length-take-le}
-use Rattle.std.proofs.lemmas.Bool.Decides.{nat_tests}
-use Rattle.framing.specs.Headers.{Field, Head, end_of, header_of, is_field, length_fields}
-use Rattle.framing.specs.Frames.{HasHeader, HasFields}
-use Rattle.framing.specs.Reading.{size_of, start_by, start_at, start_of, length_by, length_among, length_or_fault, number_in, fields_in, lines_of}
-use Rattle.byte_strings.specs.Blanks.{trimmed}
-use Rattle.framing.specs.declared.error.FrameError.{FrameError}
-use Rattle.framing.specs.declared.error.FrameError.TheVariants.{Header, NoLength, TwoLengths, BadLength, TooLong}
-use Rattle.framing.specs.declared.start.Start.TheVariants.{Begins}
+use Rattle.framing.proofs.Common.{[], ap, append_assoc, arith, BadLength, Begins, Bool, cond, drop, drop_more, end_of, Err, false, Field, fields_in, FrameError, HasFields, HasHeader, Head, Header, header_of, is_field, leb, length, length-append, length-take-le, length_among, length_by, length_fields, length_or_fault, lines_of, List, list_all, nat_tests, NoLength, None, number_in, Ok, Option, refl, Result, size_of, Some, start_at, start_by, subst, sym, take, take-append-drop, take_at, TooLong, trimmed, true, TwoLengths, ℕ, ◌++◌, ◌+◌, ◌-◌, ◌∙◌, ◌∷◌, ◌≡◌, ◌≤◌}
+use Rattle.framing.specs.Reading.{start_of}
 use Rattle.framing.proofs.Ends.{mark_at}
 use Rattle.framing.proofs.Readings.{begins_is, size_of_is, size_room}
 use Rattle.framing.proofs.Values.{says_from_number, number_from_says}
@@ -17,7 +8,7 @@ use Rattle.framing.proofs.Fields.{end_mark, text_of_fields, header_is, lines_are
 
 -- From the statement to the function.
 --
--- The header part that some bytes begin with is made of these fields: then it is read so.
+-- The header part that some bytes begin with is made of these fields: then it is read as these.
 pub size_small : (bytes : List ℕ) (size : ℕ) → end_of bytes ≡ Some size → size ≤ 4096 → size_of bytes ≡ Some size
 size_small bytes size e small = let t : leb size 4096 ≡ true = grind (arith, nat_tests) in rw e (rw t refl)
 

@@ -1,11 +1,6 @@
 -- What the code holds of a stream, before a piece and after it.
-use Rattle.std.proofs.Common.{◌≡◌, ℕ, ◌+◌, ◌-◌, ◌≤◌, false, true, ltb, List, [], ◌++◌, length, take, drop, Option, Some, None, refl, sym, ap, ◌∙◌, subst, arith, length-append, length-drop, take-add}
-use Rattle.std.proofs.lemmas.List.{take_at, append-nil, drop-append-le, drop-take, take-append-le, take-append-drop, take-take, drop-drop, length-take, length-take-le}
-use Rattle.framing.specs.Reading.{Reading, Tail, start_of, reading_of, with_body}
-use Rattle.framing.specs.Parts.{Starts, Holds, Parts, range, waiting_in, before_by, first_by, tail_by, is_broken, parts_of}
-use Rattle.framing.specs.Streams.{Before, Unframed, first_of, others_of, lent_from}
-use Rattle.framing.specs.declared.start.Start.{Start}
-use Rattle.framing.specs.declared.start.Start.TheVariants.{Waits, Breaks, Begins}
+use Rattle.framing.proofs.Common.{[], ap, append-nil, arith, Before, before_by, Begins, Breaks, drop, drop-append-le, drop-drop, drop-take, false, first_by, first_of, Holds, is_broken, length, length-append, length-take, length-take-le, lent_from, List, ltb, None, Option, others_of, Parts, parts_of, range, Reading, reading_of, refl, Some, Start, start_of, Starts, subst, sym, Tail, tail_by, take, take-add, take-append-drop, take-append-le, take-take, take_at, true, Unframed, waiting_in, Waits, with_body, ℕ, ◌++◌, ◌+◌, ◌-◌, ◌∙◌, ◌≡◌, ◌≤◌}
+use Rattle.std.proofs.Common.{length-drop}
 use Rattle.framing.specs.declared.state.Mark.{Mark}
 use Rattle.framing.proofs.Readings.{reading_none, reading_some}
 use Rattle.framing.proofs.Passing.{AllWhole, first_now, whole_with, bodies_with, parts_read}
@@ -177,7 +172,7 @@ needed limit bytes kept place done read cut first start m h before broken read_p
           (some_before (waiting_in limit marked m.place m.done) (tail_by m.start l))) rest;
     }
 
--- What is held after a piece: what comes of the piece, and what the mark goes back to.
+-- What is held after a piece: what the piece leads to, and what the mark goes back to.
 pub record Came (limit : ℕ) (bytes piece more : List ℕ) (place done dropped size now : ℕ) (first start begun next : Start)
     (left : ℕ) : Type 0 where
   pub went : Went limit (waiting_in limit bytes place done) start (drop done bytes) piece
@@ -190,7 +185,7 @@ pub record Came (limit : ℕ) (bytes piece more : List ℕ) (place done dropped 
   pub marked : Holds limit (take size more) (place - dropped) (done - dropped) first start
   pub left_is : drop now more ≡ drop (length (drop done bytes ++ piece) - left) (drop done bytes ++ piece)
 
--- what has come of the next frame with the piece
+-- the part of the next frame that has come, with the piece
 pub rest_with : (bytes piece more : List ℕ) (done dropped : ℕ) → done ≤ length bytes → dropped ≤ done → more ≡ drop dropped bytes ++ piece
     → drop (done - dropped) more ≡ drop done bytes ++ piece
 rest_with bytes piece more done dropped within first e =

@@ -1,3 +1,4 @@
+pub mod Common
 pub mod LineLemmas
 pub mod Digits
 pub mod Ends

@@ -1,12 +1,6 @@
 -- The lines of a header part, one after another.
-use Rattle.std.proofs.Common.{◌≡◌, ℕ, ◌+◌, ◌-◌, ◌<◌, ◌≤◌, suc, true, false, cond, ◌&&◌, eqb, List, [], ◌∷◌, ◌++◌, length, get_or, take, drop, Option, Some, None, Result, Err, refl, sym, ap, ◌∙◌, arith}
-use Rattle.std.proofs.lemmas.List.{drop_more, take_more, append-nil, append_assoc, length-drop, take-append-drop}
-use Rattle.std.proofs.lemmas.Bool.Decides.{nat_tests}
-use Rattle.framing.specs.Headers.{Field, names_length, length_fields}
-use Rattle.framing.specs.Reading.{lines_of, onto_first, fields_in, length_by, length_among}
-use Rattle.framing.specs.Lines.{one_more, with_length, length_within}
-use Rattle.framing.specs.declared.error.FrameError.{FrameError}
-use Rattle.framing.specs.declared.error.FrameError.TheVariants.{Header}
+use Rattle.framing.proofs.Common.{[], ap, append-nil, arith, cond, drop, drop_more, eqb, Err, false, Field, fields_in, FrameError, get_or, Header, length, length-drop, length_among, length_by, length_fields, length_within, lines_of, List, names_length, nat_tests, None, one_more, onto_first, Option, refl, Result, Some, suc, sym, take, take-append-drop, take_more, true, with_length, ℕ, ◌&&◌, ◌++◌, ◌+◌, ◌-◌, ◌<◌, ◌∙◌, ◌∷◌, ◌≡◌, ◌≤◌}
+use Rattle.std.proofs.lemmas.List.{append_assoc}
 use Rattle.framing.specs.declared.header.Lengths.{Lengths}
 use Rattle.framing.specs.declared.header.Lengths.TheVariants.{No, More}
 

@@ -1,17 +1,7 @@
 -- The smallest frame of a body.
-use Rattle.std.proofs.Common.{◌≡◌, ℕ, ◌+◌, ◌^◌, ◌<◌, ◌≤◌, true, List, [], ◌∷◌, ◌++◌, length, codes, decimal, refl, sym, ap, arith, length-append}
-use Rattle.std.specs.List.{list_all}
-use Rattle.std.specs.Char.{is_ascii_digit, digit_value}
-use Rattle.std.specs.Str.Parse.{digits_value, AllDigits}
+use Rattle.framing.proofs.Common.{[], AllDigits, and_both, and_left, and_right, ap, append-nil, arith, codes, decimal, digit_value, digits_value, end_of_line, Field, Frame, Head, header_of, is_ascii_digit, is_value_byte, length, length-append, List, list_all, minimal_frame, nat_tests, reading_of, refl, sym, true, with_body, ℕ, ◌++◌, ◌+◌, ◌<◌, ◌^◌, ◌∷◌, ◌≡◌, ◌≤◌}
 use Rattle.std.proofs.lemmas.Fmt.{decimal_is_IsNumeral, length-decimal-le}
-use Rattle.std.proofs.lemmas.List.{append-nil}
-use Rattle.std.proofs.lemmas.Bool.Decides.{nat_tests}
-use Rattle.framing.specs.Headers.{Field, Head, end_of_line, header_of, is_value_byte}
-use Rattle.framing.specs.Frames.{Frame, minimal_frame}
-use Rattle.framing.specs.Reading.{reading_of, with_body}
 use Rattle.framing.proofs.Digits.{digit_range}
-use Rattle.byte_strings.proofs.Conjunctions.{and_left, and_right}
-use Rattle.byte_strings.proofs.Conjunctions.{and_both}
 use Rattle.framing.proofs.Framing.{frame_first}
 
 -- the digits of a length

@@ -1,13 +1,6 @@
 -- Whole frames, and what follows them.
-use Rattle.std.proofs.Common.{◌≡◌, ℕ, ◌+◌, ◌-◌, ◌<◌, ◌≤◌, Bool, true, false, cond, ltb, List, [], ◌∷◌, ◌++◌, length, take, drop, None, Some, refl, sym, ap, ◌∙◌, subst, arith, length-append, take-add}
-use Rattle.std.proofs.lemmas.List.{append-nil, drop-drop, length-take-le, take-append-drop, take_at}
-use Rattle.std.proofs.lemmas.Bool.Decides.{nat_tests}
-use Rattle.framing.specs.Reading.{Reading, Tail, start_of, reading_of, with_body, with_bodies}
-use Rattle.framing.specs.Reading.Tail.{Partial, Faulty}
-use Rattle.framing.specs.Parts.{Parts, first_by, parts_of, tail_by}
-use Rattle.framing.specs.Streams.{reading_after}
-use Rattle.framing.specs.declared.start.Start.{Start}
-use Rattle.framing.specs.declared.start.Start.TheVariants.{Waits, Breaks, Begins}
+use Rattle.framing.proofs.Common.{[], ap, append-nil, arith, Begins, Bool, Breaks, cond, drop, drop-drop, false, Faulty, first_by, length, length-append, length-take-le, List, ltb, nat_tests, None, Partial, Parts, parts_of, Reading, reading_after, refl, Some, Start, start_of, subst, sym, Tail, tail_by, take, take-add, take-append-drop, take_at, true, Waits, with_bodies, with_body, ℕ, ◌++◌, ◌+◌, ◌-◌, ◌<◌, ◌∙◌, ◌∷◌, ◌≡◌, ◌≤◌}
+use Rattle.framing.specs.Reading.{reading_of}
 use Rattle.framing.proofs.Readings.{is_waiting, reading_none, reading_some, starts_empty, starts_keep}
 use Rattle.framing.proofs.Framing.{first_frame, frame_first}
 use Rattle.framing.proofs.Cutting.{reading_of-append}
@@ -103,7 +96,7 @@ first_whole limit bytes body after s e h =
     ∙ frame_first limit f body [] first.2 in
     ap (λ (x : List ℕ). (reading_of limit x).tail) taken ∙ ap (λ (r : Reading). r.tail) reads ∙ nothing_whole limit
 
--- How far the code has come: whole frames were passed, and the rest starts so.
+-- How far the code has come: whole frames were passed, and the rest has this start.
 pub record Reached (limit : ℕ) (bytes : List ℕ) (start : Start) (rest : List ℕ) : Type 0 where
   pub within : length rest ≤ length bytes
   pub there : rest ≡ drop (length bytes - length rest) bytes
@@ -152,7 +145,7 @@ reached_end limit bytes start rest r h = record {
   no_more = ap (parts_of start) (sym r.there) ∙ h;
 }
 
--- the bytes that were parted so, as they are read
+-- the bytes that were parted in this way, as they are read
 pub parts_read : (limit : ℕ) (bytes : List ℕ) (start : Start) (left : ℕ) → Parts limit bytes start left
     → reading_of limit bytes ≡ record { bodies = (reading_of limit (take (length bytes - left) bytes)).bodies; tail = tail_by start (drop (length bytes - left) bytes) }
 parts_read limit bytes start left p =

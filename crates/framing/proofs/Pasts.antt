@@ -1,11 +1,6 @@
--- What is kept stands for all that came.
-use Rattle.std.proofs.Common.{◌≡◌, ℕ, zero, suc, List, [], ◌∷◌, ◌++◌, Option, Some, None, Result, Ok, Err, refl, sym, ap, ◌∙◌, subst, append_assoc}
-use Rattle.framing.specs.Reading.{Reading, Tail, reading_of, with_bodies}
-use Rattle.framing.specs.Reading.Tail.{Partial, Faulty}
-use Rattle.framing.specs.Parts.{tail_by}
-use Rattle.framing.specs.Streams.{TailIs, Reads, HasFault, Before, Unframed, Stream, StandsFor, StandsBefore, Takes, Remembers, TakesPiece, LendsBody, TakesBack, Feeds, fed, fault_of, reading_after, with_piece, with_lent, before_lent, first_of, others_of, lent_from, lent_times, retracted, nothing_fed, nothing_came}
-use Rattle.framing.specs.declared.error.FrameError.{FrameError}
-use Rattle.framing.specs.declared.error.FrameError.TheVariants.{Header, NoLength, TwoLengths, BadLength, TooLong, HeaderTooLong, NoMemory}
+-- What is kept represents all that came.
+use Rattle.framing.proofs.Common.{[], ap, append_assoc, BadLength, Before, before_lent, Err, fault_of, Faulty, fed, Feeds, first_of, FrameError, HasFault, Header, HeaderTooLong, LendsBody, lent_from, lent_times, List, NoLength, NoMemory, None, nothing_came, nothing_fed, Ok, Option, others_of, Partial, Reading, reading_after, Reads, refl, Remembers, Result, retracted, Some, StandsBefore, StandsFor, Stream, subst, suc, sym, Tail, tail_by, TailIs, Takes, TakesBack, TakesPiece, TooLong, TwoLengths, Unframed, with_bodies, with_lent, with_piece, zero, ℕ, ◌++◌, ◌∙◌, ◌∷◌, ◌≡◌}
+use Rattle.framing.specs.Reading.{reading_of}
 use Rattle.framing.proofs.Cutting.{reading_of-append}
 use Rattle.framing.proofs.Faults.{fault_read}
 use Rattle.framing.proofs.Framing.{framed_read, reading_is_right}
@@ -150,7 +145,7 @@ takes T old s piece (Err BadLength) new f h = faulted old new s piece BadLength 
 takes T old s piece (Err TooLong) new f h = faulted old new s piece TooLong f h
 takes T old s piece (Err HeaderTooLong) new f h = faulted old new s piece HeaderTooLong f h
 
--- what goes so on what is kept goes so for each stream that it stood for
+-- a value equal to what is kept represents the same
 before_here : (new kept : Unframed) (s : Stream) → new ≡ kept → StandsBefore kept s → StandsBefore new s
 before_here new kept s e h = subst (λ (x : Unframed). StandsBefore x s) (sym e) h
 

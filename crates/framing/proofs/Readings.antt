@@ -1,17 +1,8 @@
 -- The reading of a stream, frame by frame.
-use Rattle.std.proofs.Common.{◌≡◌, ℕ, ◌+◌, ◌-◌, ◌<◌, ◌≤◌, zero, suc, Bool, true, false, cond, ltb, leb, List, [], ◌∷◌, ◌++◌, length, take, drop, Option, Some, None, Result, Ok, Err, refl, sym, ap, ◌∙◌, subst, arith, length-append, length-drop}
-use Rattle.std.proofs.lemmas.List.{take-append-le, take-append-drop, length-take-le}
+use Rattle.framing.proofs.Common.{[], ap, arith, Begins, Bool, Breaks, cond, content_length, drop, end_of, EndsPast, Err, false, FrameError, HeaderTooLong, leb, length, length-append, length-take-le, List, ltb, nat_tests, None, Ok, Option, Partial, parts_of, Reading, reading_by, reading_within, refl, Result, size_by, size_of, Some, Start, start_at, start_by, subst, suc, sym, tail_by, take, take-append-drop, take-append-le, true, Waits, with_body, zero, ℕ, ◌++◌, ◌+◌, ◌-◌, ◌<◌, ◌∙◌, ◌∷◌, ◌≡◌, ◌≤◌}
+use Rattle.std.proofs.Common.{length-drop}
 use Rattle.std.proofs.lemmas.Bool.{false≢true}
-use Rattle.std.proofs.lemmas.Bool.Decides.{nat_tests}
-use Rattle.framing.specs.Headers.{end_of}
-use Rattle.framing.specs.Reading.{Reading, size_of, size_by, start_by, start_at, start_of, content_length, reading_by, reading_within, reading_of, with_body}
-use Rattle.framing.specs.Reading.Tail.{Partial}
-use Rattle.framing.specs.Parts.{parts_of, tail_by}
-use Rattle.framing.specs.declared.error.FrameError.{FrameError}
-use Rattle.framing.specs.declared.error.FrameError.TheVariants.{HeaderTooLong}
-use Rattle.framing.specs.declared.start.Start.{Start}
-use Rattle.framing.specs.declared.start.Start.TheVariants.{Waits, Breaks, Begins}
-use Rattle.framing.specs.Lines.{EndsPast}
+use Rattle.framing.specs.Reading.{start_of, reading_of}
 use Rattle.framing.proofs.Ends.{mark_at, end_keeps, end_later, end_before}
 
 -- the size of a header part

@@ -1,15 +1,6 @@
 -- The length that a value says.
-use Rattle.std.proofs.Common.{◌≡◌, ℕ, ◌<◌, ◌≤◌, Bool, true, false, cond, not, ◌&&◌, eqb, leb, List, [], ◌∷◌, ◌++◌, length, reverse, Some, None, refl, sym, ap, ◌∙◌, arith}
-use Rattle.std.specs.List.{list_all}
-use Rattle.std.specs.Char.{is_ascii_digit}
-use Rattle.std.specs.Str.Parse.{digits_value}
-use Rattle.std.proofs.lemmas.Bool.Decides.{nat_tests}
-use Rattle.framing.specs.Headers.{SaysLength}
-use Rattle.byte_strings.specs.Blanks.{is_blank}
-use Rattle.framing.specs.Reading.{number_in}
-use Rattle.byte_strings.specs.Blanks.{trimmed}
+use Rattle.framing.proofs.Common.{[], all_reverse, and_left, ap, arith, Bool, cond, digits_value, eqb, false, is_ascii_digit, is_blank, leb, length, List, list_all, nat_tests, None, not, number_in, refl, reverse, SaysLength, Some, sym, trimmed, true, ℕ, ◌&&◌, ◌++◌, ◌<◌, ◌∙◌, ◌∷◌, ◌≡◌, ◌≤◌}
 use Rattle.framing.proofs.Digits.{digit_range}
-use Rattle.byte_strings.proofs.Conjunctions.{and_left, all_reverse}
 use Rattle.byte_strings.proofs.Trimming.{bare, begins_blank, between, round}
 
 not_blank : (d : ℕ) → is_ascii_digit d ≡ true → is_blank d ≡ false

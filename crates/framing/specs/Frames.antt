@@ -27,7 +27,7 @@ AreFrames limit bytes [] = bytes ≡ []
 AreFrames limit bytes (body ∷ bodies) = (f : List ℕ) × (others : List ℕ) × (bytes ≡ f ++ others) × Frame limit f body
     × AreFrames limit others bodies
 
--- The stream is frames of the bodies, in order, and then the rest, no prefix of which is a frame.
+-- The stream is frames of the bodies, in order, and then the rest, which has no frame as a prefix.
 pub record Framed (limit : ℕ) (stream : List ℕ) (bodies : List (List ℕ)) (rest : List ℕ) : Type 0 where
   pub prefix : List ℕ
   pub whole : stream ≡ prefix ++ rest

@@ -24,7 +24,7 @@ abbrev pub FaultIsUnique : Type 0
 FaultIsUnique = (limit : ℕ) (rest : List ℕ) (fault other : FrameError) → Fault limit rest fault → Fault limit rest other
     → fault ≡ other
 
--- However a stream is cut, its reading is that of the prefix, gone on with from its tail.
+-- However a stream is cut, its reading is that of the prefix, continued from its tail.
 abbrev pub CutsDoNotMatter : Type 0
 CutsDoNotMatter =
     (limit : ℕ) (prefix after : List ℕ)
@@ -43,7 +43,7 @@ abbrev pub BodiesAreRight : Type 0
 BodiesAreRight = (kept : Unframed) (s : Stream) → StandsFor kept s
     → Reads kept.limit s.fed (record { bodies = s.lent ++ kept.waiting; tail = kept.tail })
 
--- Whatever a piece brought, and however many bodies were lent since: what is left after it was taken back stands for
+-- Whatever a piece brought, and however many bodies were lent since: what is left after it was taken back represents
 -- all that was fed before it, with the bodies that were lent before it.
 abbrev pub RetractGoesBack : Type 0
 RetractGoesBack = (kept : Unframed) (s : Stream) (piece : List ℕ) (loans : ℕ) → StandsFor kept s

@@ -12,11 +12,8 @@ pub mod Streams
 pub mod Lending
 -- what follows for every stream
 pub mod Laws
--- ---- for private clauses alone: how the code works
--- the lines of a header part, one after the other
-pub mod Lines
--- the bytes and the bodies that are held
-pub mod Parts
+-- what private clauses alone cite
+pub mod Private
 -- ---- of `byte_strings`
 -- the blanks round a field's value
 pub use Rattle.byte_strings.specs.Blanks

@@ -1,8 +1,8 @@
 -- What a stream says, as a function of all its bytes.
 --
--- `Frames` says what frames are, as statements. Here the same is computed, for layers that go on from the
--- bodies: a stream has one reading, which is its whole bodies in order and its tail. The tail is what has come
--- of the next frame, or the fault that the stream has there.
+-- `Frames` says what frames are, as statements. Here the same is computed, for layers that continue from the
+-- bodies: a stream has one reading, which is its whole bodies in order and its tail. The tail is the part
+-- of the next frame that has come, or the fault that the stream has there.
 use Rattle.std.specs.Prelude.{◌≡◌, ℕ, zero, suc, ◌+◌, ◌-◌, ◌==◌, nat_lt, nat_le, if◌then◌else◌, ◌&&◌, not, List, []}
 use Rattle.std.specs.Prelude.{◌∷◌, ◌++◌, length, take, drop, position, Option, Some, None, Result, Ok, Err, codes, refl}
 use Rattle.std.specs.List.{list_all}
@@ -117,7 +117,7 @@ with_body body r = record { bodies = body ∷ r.bodies; tail = r.tail }
 abbrev pub with_bodies : List (List ℕ) → Reading → Reading
 with_bodies bodies r = record { bodies = bodies ++ r.bodies; tail = r.tail }
 
--- the reading of bytes whose first frame starts so, by the reading of what follows
+-- the reading of bytes whose first frame has this start, by the reading of what follows
 abbrev pub reading_by : (List ℕ → Reading) → List ℕ → Start → Reading
 reading_by others bytes Waits = record { bodies = []; tail = Partial bytes }
 reading_by others bytes (Breaks fault) = record { bodies = []; tail = Faulty fault }
@@ -125,7 +125,7 @@ reading_by others bytes (Begins size n) = if nat_lt (length bytes) (size + n)
     then record { bodies = []; tail = Partial bytes }
     else with_body (take n (drop size bytes)) (others (drop (size + n) bytes))
 
--- the reading of a stream of at most so many frames
+-- the reading of a stream with at most this many frames
 abbrev pub reading_within : ℕ → ℕ → List ℕ → Reading
 reading_within zero limit bytes = record { bodies = []; tail = Partial bytes }
 reading_within (suc frames) limit bytes = reading_by (reading_within frames limit) bytes (start_of limit bytes)

@@ -5,7 +5,7 @@ ghost use Rattle.std.specs.Prelude.{◌≡◌, ◌≤◌, ◌++◌, IfOk, OnErr,
 use crate::start::Start;
 use std::alloc::AllocError;
 
-/// Puts a piece after the bytes, of which the first were read. Where those are at least half, they are
+/// Puts a piece after the bytes. The first `read` were read; where those are at least half, they are
 /// dropped before: no more bytes stay, and have to move, than were read. It answers how many were
 /// dropped. The one growth comes before any change: where it finds no memory, the bytes are as before.
 pub(crate) fn append(bytes: &mut Vec<u8>, read: usize, piece: &[u8]) -> Result<usize, AllocError>
@@ -32,8 +32,8 @@ pub(crate) fn drop_bytes(bytes: &mut Vec<u8>, count: usize)
     }
 }
 
-/// Makes room for the rest of a frame that starts so and of which so many bytes have come. Where no
-/// memory is left for that there is less, since a piece of the frame may need no more.
+/// Makes room for the rest of a frame with this start; `come` of its bytes are there. Where no memory
+/// is left for that, there is less room: a piece of the frame may need no more.
 pub(crate) fn reserve_rest(bytes: &mut Vec<u8>, start: Start, come: usize)
     ensures { bytes.new.items ≡ bytes.old.items }
 {

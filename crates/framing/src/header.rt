@@ -4,7 +4,7 @@ ghost use Rattle.std.specs.Prelude.{◌≡◌, ◌+◌, ◌<◌, ◌≤◌, ℕ,
 ghost use Rattle.std.specs.Option.{option_copied};
 ghost use Rattle.framing.specs.Headers.{end_of};
 ghost use Rattle.framing.specs.Reading.{content_length, lines_of, size_of};
-ghost use Rattle.framing.specs.Lines.{lines_after, with_length, length_within, EndsPast};
+ghost use Rattle.framing.specs.Private.Lines.{lines_after, with_length, length_within, EndsPast};
 
 use crate::FrameError;
 use crate::field::Field;
@@ -57,7 +57,7 @@ impl Lengths {
 }
 
 /// The size in bytes of the header part that some bytes begin with, its CR LF CR LF included. `None`:
-/// the first 4,096 bytes hold no end. The search goes on after the bytes that were searched before.
+/// the first 4,096 bytes hold no end. The search continues after the bytes that were searched before.
 pub(crate) fn header_size(bytes: &[u8], searched: usize) -> Option<usize>
     requires { EndsPast searched bytes.now }
     ensures size { result ≡ size_of bytes.now }

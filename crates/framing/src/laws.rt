@@ -37,7 +37,7 @@ pub fn bodies_are_right()
     ensures { BodiesAreRight }
 {}
 
-/// However a stream is cut, its reading is that of a prefix, gone on with.
+/// However a stream is cut, its reading is that of a prefix, continued.
 pub fn cuts_do_not_matter()
     ensures { CutsDoNotMatter }
 {}
@@ -47,7 +47,7 @@ pub fn frames_are_read()
     ensures { FramesAreRead }
 {}
 
-/// What `retract` leaves stands for all that was fed before the last piece, with the bodies that were
+/// What `retract` leaves represents all that was fed before the last piece, with the bodies that were
 /// lent before it, however many were lent since.
 pub fn retract_goes_back()
     ensures { RetractGoesBack }

@@ -1,12 +1,12 @@
 //! Bytes parted into whole frames and a rest.
 
 ghost use Rattle.std.specs.Prelude.{◌≡◌};
-ghost use Rattle.framing.specs.Parts.{Parts};
+ghost use Rattle.framing.specs.Private.Parts.{Parts};
 ghost use Rattle.framing.specs.Reading.{start_of};
 
 use crate::start::Start;
 
-/// What has come of the next frame.
+/// The part of the next frame that has come.
 #[derive(Clone, Copy)]
 pub(crate) struct NextFrame {
     /// How it starts.
@@ -15,8 +15,8 @@ pub(crate) struct NextFrame {
     pub size: usize,
 }
 
-/// What has come of the next frame after the whole ones that some bytes begin with, of which the first
-/// starts so.
+/// The part of the next frame that has come, after the whole frames that some bytes begin with. The
+/// first frame has this start.
 pub(crate) fn split(limit: u32, bytes: &[u8], start: Start) -> NextFrame
     requires { start ≡ start_of limit bytes.now }
     ensures { Parts limit bytes.now result.start result.size }

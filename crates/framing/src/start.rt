@@ -2,8 +2,8 @@
 
 ghost use Rattle.std.specs.Prelude.{◌≡◌, ◌≤◌, length, take};
 ghost use Rattle.std.specs.Option.{option_map};
-ghost use Rattle.framing.specs.Lines.{EndsPast};
-ghost use Rattle.framing.specs.Parts.{parts_of};
+ghost use Rattle.framing.specs.Private.Lines.{EndsPast};
+ghost use Rattle.framing.specs.Private.Parts.{parts_of};
 ghost use Rattle.framing.specs.Reading.{start_of};
 
 use crate::FrameError;
@@ -55,7 +55,7 @@ impl Start {
         }
     }
 
-    /// The content part of the frame that starts so, and the bytes after it. `None`: the frame is not
+    /// The content part of the frame with this start, and the bytes after it. `None`: the frame is not
     /// whole.
     pub(crate) fn parts(self, bytes: &[u8]) -> Option<(&[u8], &[u8])>
         ensures parts { option_map (λ p. (p.0.now, p.1.now)) result ≡ parts_of self bytes.now }

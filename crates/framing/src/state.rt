@@ -3,7 +3,7 @@
 ghost use Rattle.std.specs.Prelude.{◌≡◌, ℕ, List, Err, IfSome, IsSome};
 ghost use Rattle.std.specs.Option.{option_copied};
 ghost use Rattle.std.specs.Borrow.{sem};
-ghost use Rattle.framing.specs.Parts.{first_by};
+ghost use Rattle.framing.specs.Private.Parts.{first_by};
 ghost use Rattle.framing.specs.Streams.{Feeds, fault_of, fed, first_of, nothing_fed, retracted};
 ghost use Rattle.framing.specs.Lending.{LeavesState};
 
@@ -29,13 +29,13 @@ pub(crate) struct Mark {
     pub start: Start,
 }
 
-/// A limit, the frames whose bodies wait, and what has come of the next frame. What was lent since the
+/// A limit, the frames whose bodies wait, and the part of the next frame that has come. What was lent since the
 /// last piece is kept until the next one, so that the piece can be taken back without memory.
 #[derive(Drop)]
 pub(crate) struct State {
     limit: u32,
-    /// Frames whose bodies were lent, then those whose bodies wait, and then what has come of the next
-    /// frame. What the last piece can be taken back with is dropped at the next one.
+    /// Frames whose bodies were lent, then those whose bodies wait, and then the part of the next frame that
+    /// has come. What the last piece can be taken back with is dropped at the next one.
     bytes: Vec<u8>,
     /// Where the first frame that waits begins.
     place: usize,
@@ -53,7 +53,7 @@ pub(crate) struct State {
 impl Model for State {
     ghost use Rattle.std.specs.Prelude.{drop};
     ghost use Rattle.framing.specs.Streams.{Unframed};
-    ghost use Rattle.framing.specs.Parts.{Fits, before_by, tail_by, waiting_in};
+    ghost use Rattle.framing.specs.Private.Parts.{Fits, before_by, tail_by, waiting_in};
 
     ghost Value = { Unframed };
 
@@ -121,7 +121,7 @@ impl State {
         Ok(())
     }
 
-    /// Takes a piece after a fault: nothing comes of it.
+    /// Takes a piece after a fault: it brings no body.
     fn feed_faulty(&mut self)
         requires { IsSome (fault_of self.old.tail) }
         ensures { (piece : List ℕ) → self.new ≡ fed self.old piece }
@@ -202,8 +202,8 @@ impl State {
     }
 }
 
-/// How the first of the frames that wait starts: as it did where one waited, else as what has come of
-/// the next frame, if it is whole.
+/// How the first of the frames that wait starts: as it did where one waited, else as the next frame
+/// does, if it is whole.
 fn first_start(first: Start, start: Start, is_whole: bool) -> Start
     ensures { result ≡ first_by first start is_whole }
 {

@@ -14,7 +14,7 @@ use std::marker::Model;
 /// Takes a stream of frames apart (base protocol, "Header Part" and "Content Part"). The stream comes
 /// in pieces, cut anywhere; the bodies are those of the whole stream. A contract sees the limit, the
 /// bodies that wait, and the tail: part of the next frame, or the fault that the stream has. It sees
-/// the bodies and the tail of before the last piece too, as long as the piece can be taken back.
+/// the bodies and the tail from before the last piece too, as long as the piece can be taken back.
 #[derive(Drop)]
 pub struct Unframer {
     state: State,
@@ -49,11 +49,11 @@ impl Unframer {
     /// bodies before it can still be lent. With a fault no more is kept than `retract` needs. `NoMemory`
     /// changes nothing: the piece can be fed again, and `retract` takes back the one before.
     pub fn feed(&mut self, piece: &[u8]) -> Result<(), FrameError>
-        // What is kept is what was kept, gone on with.
+        // What is kept is what was kept, continued with the piece.
         ensures kept { Feeds self.old piece.now result self.new }
 
-        // It stands for all that was ever fed, and the error is the fault of that. What was kept before
-        // stood for what was fed before.
+        // It represents all that was ever fed, and the error is the fault of that. What was kept before
+        // represented what was fed before.
         ensures stream { TakesPiece self.old piece.now result self.new }
 
         // A fault stays, also where no memory is left.
@@ -65,12 +65,12 @@ impl Unframer {
     /// Takes back the last `feed`, its fault too, and the bodies that were lent since: those that were
     /// whole before wait again. It does nothing where no `feed` came since the last `retract`, or ever;
     /// a `feed` that answered `NoMemory` is none. A `feed` on a stream that had a fault is one, and the
-    /// fault of before stays. The call takes no memory.
+    /// earlier fault stays. The call takes no memory.
     pub fn retract(&mut self)
         // What is kept is what was kept before the last piece.
         ensures kept { self.new ≡ retracted self.old }
 
-        // It stands for all that was fed before that piece, and the bodies that were lent before it.
+        // It represents all that was fed before that piece, and the bodies that were lent before it.
         ensures stream { TakesBack self.old self.new }
     {
         self.state.retract()
@@ -93,8 +93,8 @@ impl Unframer {
         // Once the loan is over, that body does not wait any more.
         ensures* after { sem 𝓛 (Leaves self.entry) }
 
-        // What is kept then stands for all that was ever fed, with the body lent. What was kept before
-        // the last piece stands for what it did.
+        // What is kept then represents all that was ever fed, with the body lent. What was kept before
+        // the last piece represents what it did.
         ensures stream { LendsBody self.old (option_copied result) (lent_from self.old) }
     {
         self.state.next_body()

@@ -1,4 +1,4 @@
--- Whether a move is recorded decides what comes of a request to go back.
+-- Whether a move is recorded decides the answer to a request to go back.
 use Rattle.std.proofs.Common.{◌≡◌, ◌≢◌, List, [], ◌∷◌, length, None, refl, arith}
 use Rattle.course.specs.Positions.{Position}
 use Rattle.debuggee.specs.Programs.{resumed}

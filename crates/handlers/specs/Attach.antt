@@ -17,7 +17,7 @@ use Rattle.handlers.specs.Successes.{agreeing}
 abbrev pub demand : Demand
 demand = taken_in Initialized asks_alive
 
--- what comes of it
+-- the answer, and what it changes
 abbrev pub success : Given → Terms → Answering
 success given terms = record (agreeing given (record terms { phase = Configuring; launched = false }) body.Empty) {
   events = event.Initialized ∷ [];

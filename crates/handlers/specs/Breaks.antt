@@ -1,4 +1,4 @@
--- What comes of a request that sets breakpoints (DAP specification, `SetBreakpointsRequest`,
+-- The answer to a request that sets breakpoints (DAP specification, `SetBreakpointsRequest`,
 -- `SetFunctionBreakpointsRequest`, `SetInstructionBreakpointsRequest`).
 --
 -- The request is answered by what there is of the program: its lines and labels, the path of its file and the size of its
@@ -56,13 +56,13 @@ abbrev pub sets_by : Given → Terms → Command → Result ResponseBody Refusal
 sets_by given terms command (Ok body) list = sets given terms command body list
 sets_by given terms command (Err refusal) list = refusing given terms refusal None
 
--- what comes of it, by the program
+-- the answer, by the program
 abbrev pub success_on : Option Program → Given → Terms → Command → Answering
 success_on None given terms command = agreeing given terms body.Empty
 success_on (Some p) given terms command =
     let answer = breaks_answer command p.image.lines p.machine.size (view_of terms p) (given.debuggee.last_break + 1) in
     sets_by given terms command answer.result answer.list
 
--- what comes of it
+-- the answer, and what it changes
 abbrev pub success : Given → Terms → Command → Answering
 success given terms command = success_on given.debuggee.program given terms command

@@ -1,4 +1,4 @@
--- What the code of an answer changes, and the answer that it stands for.
+-- What the code of an answer changes, and the answer that it represents.
 use Rattle.std.specs.Prelude.{List, [], ◌∷◌, length, Option, Some, None, ⊤}
 use Rattle.debuggee.specs.Programs.{Debuggee, Program, ended, first_run, left, marked, on_program, restarted, resumed, with_functions}
 use Rattle.debuggee.specs.Programs.{with_hart, with_instructions, with_program, with_source, written}
@@ -49,7 +49,7 @@ changed (change.SetFunctions breaks) d =
 changed (change.Issue targets) d = d
 changed (change.OfProgram c) d = with_program (changed_one c) d
 
--- the events of an answer of the code
+-- the events of an answer in the code
 abbrev pub events_of : Option AnEvent → List AnEvent
 events_of None = []
 events_of (Some event) = event ∷ []
@@ -74,7 +74,7 @@ call_of (change.SetFunctions breaks) = None
 call_of (change.Issue targets) = Some (Issue targets.items)
 call_of (change.OfProgram c) = call_of_one c
 
--- the answer that the code's is, where this is debugged
+-- the answer that one in the code represents, where this is debugged
 abbrev pub answering_as : Debuggee → AnAnswer → Answering
 answering_as d a = record {
   debuggee = changed a.change d;

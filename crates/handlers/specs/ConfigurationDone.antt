@@ -1,6 +1,6 @@
 -- `configurationDone`: the editor has said all (DAP specification, `ConfigurationDoneRequest`).
 --
--- A program that it launched runs given. One that it joined goes on as before, and the editor is told how: that it runs,
+-- A program that it launched runs then. One that it joined continues as before, and the editor is told how: that it runs,
 -- or stands still, and why.
 use Rattle.std.specs.Prelude.{if◌then◌else◌, List, [], ◌∷◌, Option, Some, None}
 use Rattle.debuggee.specs.Programs.{first_run}
@@ -29,14 +29,14 @@ run_events (Some Running) = Continued ∷ []
 run_events (Some (Stopped why)) = stop_event why [] ∷ []
 run_events (Some (Ended code)) = []
 
--- what comes of it after `launch`, and after `attach`
+-- the answer after `launch`, and after `attach`
 abbrev pub begins : Given → Terms → Answering
 begins given terms = changing given terms first_run body.Empty
 
 abbrev pub joins : Given → Terms → Answering
 joins given terms = record (agreeing given terms body.Empty) { events = run_events (run_of given.debuggee.program) }
 
--- what comes of it
+-- the answer, and what it changes
 abbrev pub success : Given → Terms → Answering
 success given terms = let active = record terms { phase = Active } in
     if terms.launched then begins given active else joins given active

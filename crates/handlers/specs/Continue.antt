@@ -1,4 +1,4 @@
--- `continue`: the program goes on, without a goal (DAP specification, `ContinueRequest`).
+-- `continue`: the program continues, without a goal (DAP specification, `ContinueRequest`).
 use Rattle.std.specs.Prelude.{ℤ}
 use Rattle.debuggee.specs.Programs.{resumed}
 use Rattle.stepping.specs.declared.goal.Goal.TheVariants.{Go}
@@ -14,6 +14,6 @@ use Rattle.handlers.specs.Successes.{resuming}
 abbrev pub demand : ℤ → Demand
 demand thread = taken_in Active (asks_still thread)
 
--- what comes of it
+-- the answer, and what it changes
 abbrev pub success : Given → Terms → Answering
 success given terms = resuming given terms (resumed Go) body.Continue

@@ -1,7 +1,7 @@
 -- In which phases a request is taken, and what it asks of the program that is debugged, before anything else is looked
 -- at.
 --
--- A request that is about a program needs one. Most need one that has not ended, and those that let it go on, or look
+-- A request that is about a program needs one. Most need one that has not ended, and those that let it continue, or look
 -- into it, one that stands still. There is one thread, which has the number 1 (DAP specification, `Thread.id`).
 use Rattle.std.specs.Prelude.{ℤ, pos, Bool, true, false, not, Option, Some, None}
 use Rattle.std.specs.Ordering.{int_eq}
@@ -15,23 +15,23 @@ use Rattle.handlers.specs.declared.phase.Phases.TheVariants.{There}
 abbrev pub asks_nothing : Demand
 asks_nothing = record { phases = There; loaded = false; alive = false; thread = None; still = false }
 
--- that there is a program
+-- there is a program
 abbrev pub asks_program : Demand
 asks_program = record { phases = There; loaded = true; alive = false; thread = None; still = false }
 
--- that it has not ended
+-- it has not ended
 abbrev pub asks_alive : Demand
 asks_alive = record { phases = There; loaded = true; alive = true; thread = None; still = false }
 
--- that it has not ended, and that this is its thread
+-- it has not ended, and this is its thread
 abbrev pub asks_thread : ℤ → Demand
 asks_thread number = record { phases = There; loaded = true; alive = true; thread = Some number; still = false }
 
--- that it has not ended, and stands still
+-- it has not ended, and stands still
 abbrev pub asks_stopped : Demand
 asks_stopped = record { phases = There; loaded = true; alive = true; thread = None; still = true }
 
--- that it has not ended, stands still, and that this is its thread
+-- it has not ended, stands still, and this is its thread
 abbrev pub asks_still : ℤ → Demand
 asks_still number = record { phases = There; loaded = true; alive = true; thread = Some number; still = true }
 

@@ -2,7 +2,7 @@
 --
 -- The editor's breakpoints go, and what it marked. Once it debugs a program, the request decides what becomes of that:
 -- one that has ended stays so; another ends where that is asked for, and where nothing is said, if this editor launched
--- it; else it is to stand still, where that is asked for; else it goes on.
+-- it; else it is to stand still, where that is asked for; else it continues.
 use Rattle.std.specs.Prelude.{Bool, true, false, ◌&&◌, not, if◌then◌else◌, [], Option, Some, None}
 use Rattle.debuggee.specs.Programs.{Program, ended, is_ended, is_running, left, stopped, with_program}
 use Rattle.debuggee.specs.declared.run.Why.TheVariants as why
@@ -40,7 +40,7 @@ departed ends stands p =
     else if stands && is_running p.run then stopped why.Pause p
     else p
 
--- what comes of it
+-- the answer, and what it changes
 abbrev pub success : Given → Terms → DisconnectArguments → Answering
 success given terms arguments = record {
   debuggee =

@@ -23,7 +23,7 @@ abbrev pub past_of : Option Program → List Position
 past_of None = []
 past_of (Some p) = p.machine.past
 
--- what comes of it, by these
+-- the answer, by these
 abbrev pub success_by : List Position → Given → Terms → Goal → Answering
 success_by [] given terms goal = refusing given terms NoHistory None
 success_by (before ∷ past) given terms goal = resuming given terms (resumed goal) body.Empty

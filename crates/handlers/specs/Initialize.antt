@@ -22,6 +22,6 @@ agreed terms arguments = record terms {
   columns_start_at1 = arguments.columns_start_at1;
 }
 
--- what comes of it
+-- the answer, and what it changes
 abbrev pub success : Given → Terms → InitializeArguments → Answering
 success given terms arguments = agreeing given (agreed terms arguments) body.Initialize

@@ -56,12 +56,12 @@ loads given terms arguments text = record {
   closes = false;
 }
 
--- what comes of a file that was read, by what is wrong with it
+-- the answer, where the file was read, by what is wrong with it
 abbrev pub assembles : Given → Terms → LaunchArguments → List ℕ → Option AsmError → Answering
 assembles given terms arguments text None = loads given terms arguments text
 assembles given terms arguments text (Some error) = refusing given terms AssemblyFailed (Some (error_text error))
 
--- what comes of it, by its file
+-- the answer, by its file
 abbrev pub success : Given → Terms → Option (List ℕ) → LaunchArguments → Answering
 success given terms None arguments = refusing given terms FileUnreadable None
 success given terms (Some text) arguments = assembles given terms arguments text (error_of text given.size)

@@ -1,4 +1,4 @@
--- How requests are handled: in which phases each is taken, what it asks of the program, and what comes of it.
+-- How requests are handled: in which phases each is taken, what it asks of the program, and how it is answered.
 
 -- how far a connection has come, and what was agreed on it
 pub mod Phases
@@ -14,7 +14,7 @@ pub mod Successes
 pub mod Telling
 -- the source, and how the editor counts
 pub mod Views
--- each request, in the file of its name: its phases, what it asks, and what comes of it
+-- each request, in the file of its name: its phases, what it asks, and its answer
 pub mod Initialize
 pub mod Launch
 pub mod Attach
@@ -45,5 +45,5 @@ pub mod WriteMemory
 pub mod Requests
 -- the answer to a request: the refusals in their order, or its success
 pub mod Refusals
--- what the code of an answer changes, and which answer it stands for
+-- what the code of an answer changes, and which answer it represents
 pub mod Changes

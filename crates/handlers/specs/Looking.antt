@@ -1,4 +1,4 @@
--- What comes of a request that looks into the program that is debugged (DAP specification, `StackTraceRequest`,
+-- The answer to a request that looks into the program that is debugged (DAP specification, `StackTraceRequest`,
 -- `ScopesRequest`, `VariablesRequest`, `EvaluateRequest`, `DisassembleRequest`, `ReadMemoryRequest`).
 --
 -- The request is answered by what there is of the program as it stands still, and by the numbers that this stop has.
@@ -49,11 +49,11 @@ shows_by given terms (Err refusal) targets = refusing given terms refusal None
 abbrev pub seen_in : Program → Given → Terms → Command → Look
 seen_in p given terms command = look_answer command p.machine p.image.lines given.numbers (view_of terms p)
 
--- what comes of it, by the program
+-- the answer, by the program
 abbrev pub looks_on : Option Program → Given → Terms → Command → Answering
 looks_on None given terms command = agreeing given terms body.Empty
 looks_on (Some p) given terms command = let look = seen_in p given terms command in shows_by given terms look.result look.targets
 
--- what comes of it
+-- the answer, and what it changes
 abbrev pub looks : Given → Terms → Command → Answering
 looks given terms command = looks_on given.debuggee.program given terms command

@@ -14,6 +14,6 @@ use Rattle.handlers.specs.Successes.{changing}
 abbrev pub demand : ℤ → Demand
 demand thread = taken_in Active (asks_thread thread)
 
--- what comes of it
+-- the answer, and what it changes
 abbrev pub success : Given → Terms → Answering
 success given terms = changing given terms (marked mark.Pause) body.Empty

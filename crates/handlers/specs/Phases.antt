@@ -1,8 +1,8 @@
 -- How far a connection has come, and what was agreed on it (DAP specification, "Initialization", "Launching and
 -- attaching").
 --
--- An editor begins with `initialize`, and says then how it counts lines and columns. It launches a program, and has its
--- breakpoints set; with `configurationDone` it has said all, and the program runs. `disconnect` is the end.
+-- An editor begins with `initialize`, and says then how it counts lines and columns. It launches or joins a program, and
+-- has its breakpoints set; with `configurationDone` it has said all, and a program that it launched runs. `disconnect` is the end.
 use Rattle.std.specs.Prelude.{ℕ, Bool, true, false, if◌then◌else◌}
 use Rattle.handlers.specs.declared.phase.Phase.{Phase}
 use Rattle.handlers.specs.declared.phase.Phase.TheVariants.{Fresh, Initialized, Configuring, Active, Left}
@@ -28,7 +28,7 @@ is_fresh_in Configuring = false
 is_fresh_in Active = false
 is_fresh_in Left = false
 
--- whether the editor may launch a program
+-- whether the editor may launch or join a program
 abbrev pub is_initialized_in : Phase → Bool
 is_initialized_in Fresh = false
 is_initialized_in Initialized = true

@@ -1,5 +1,5 @@
--- The requests: in which phases each is taken, what it asks of the program that is debugged, and what comes of it. This
--- is the list of them; what there is to say of one is in the file of its name.
+-- The requests: in which phases each is taken, what it asks of the program that is debugged, and how it is answered. This
+-- is the list of them; the rest is in the file of each one's name.
 --
 -- A session serves those that `protocol` reads, and no others (DAP specification, `Request.command`).
 use Rattle.std.specs.Prelude.{ℕ, Bool, List, Option}
@@ -75,7 +75,7 @@ demand_of (WriteMemory arguments) = write_memory.demand
 abbrev pub is_taken_in : Phase → Command → Bool
 is_taken_in phase command = has (demand_of command).phases phase
 
--- what comes of the request where it is taken, and the program is as it asks; it is given the file that it names
+-- the answer to a request that is taken, where the program is as it asks; it is given the file that it names
 abbrev pub success_of : Given → Terms → Option (List ℕ) → Command → Answering
 success_of given terms file (Initialize arguments) = initialize.success given terms arguments
 success_of given terms file (Launch arguments) = launch.success given terms file arguments

@@ -13,6 +13,6 @@ use Rattle.handlers.specs.Successes.{resuming}
 abbrev pub demand : Demand
 demand = taken_in Active asks_alive
 
--- what comes of it
+-- the answer, and what it changes
 abbrev pub success : Given → Terms → Answering
 success given terms = resuming given terms (λ p. first_run (restarted p)) body.Empty

@@ -11,6 +11,6 @@ use Rattle.handlers.specs.GoingBack as going_back
 abbrev pub demand : ℤ → Demand
 demand thread = going_back.demand thread
 
--- what comes of it
+-- the answer, and what it changes
 abbrev pub success : Given → Terms → Answering
 success given terms = going_back.success given terms ReverseGo

@@ -1,4 +1,4 @@
--- `setBreakpoints`: the breakpoints of source lines are given these (DAP specification, `SetBreakpointsRequest`).
+-- `setBreakpoints`: the breakpoints of source lines are now these (DAP specification, `SetBreakpointsRequest`).
 use Rattle.protocol.specs.declared.command.Command.TheVariants.{SetBreakpoints}
 use Rattle.protocol.specs.declared.set_breakpoints.SetBreakpointsArguments.{SetBreakpointsArguments}
 use Rattle.handlers.specs.declared.terms.Terms.{Terms}
@@ -12,6 +12,6 @@ use Rattle.handlers.specs.Breaks as breaks
 abbrev pub demand : Demand
 demand = taken_in Debugging asks_program
 
--- what comes of it
+-- the answer, and what it changes
 abbrev pub success : Given → Terms → SetBreakpointsArguments → Answering
 success given terms arguments = breaks.success given terms (SetBreakpoints arguments)

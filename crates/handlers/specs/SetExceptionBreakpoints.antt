@@ -12,6 +12,6 @@ use Rattle.handlers.specs.Successes.{agreeing}
 abbrev pub demand : Demand
 demand = taken_in Debugging asks_program
 
--- what comes of it
+-- the answer, and what it changes
 abbrev pub success : Given → Terms → Answering
 success given terms = agreeing given terms body.Empty

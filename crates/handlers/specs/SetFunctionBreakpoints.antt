@@ -1,4 +1,4 @@
--- `setFunctionBreakpoints`: the breakpoints of functions are given these (DAP specification, `SetFunctionBreakpointsRequest`).
+-- `setFunctionBreakpoints`: the breakpoints of functions are now these (DAP specification, `SetFunctionBreakpointsRequest`).
 use Rattle.protocol.specs.declared.command.Command.TheVariants.{SetFunctionBreakpoints}
 use Rattle.protocol.specs.declared.set_function_breakpoints.SetFunctionBreakpointsArguments.{SetFunctionBreakpointsArguments}
 use Rattle.handlers.specs.declared.terms.Terms.{Terms}
@@ -12,6 +12,6 @@ use Rattle.handlers.specs.Breaks as breaks
 abbrev pub demand : Demand
 demand = taken_in Debugging asks_program
 
--- what comes of it
+-- the answer, and what it changes
 abbrev pub success : Given → Terms → SetFunctionBreakpointsArguments → Answering
 success given terms arguments = breaks.success given terms (SetFunctionBreakpoints arguments)

@@ -1,4 +1,4 @@
--- `setInstructionBreakpoints`: the breakpoints of instructions are given these (DAP specification, `SetInstructionBreakpointsRequest`).
+-- `setInstructionBreakpoints`: the breakpoints of instructions are now these (DAP specification, `SetInstructionBreakpointsRequest`).
 use Rattle.protocol.specs.declared.command.Command.TheVariants.{SetInstructionBreakpoints}
 use Rattle.protocol.specs.declared.set_instruction_breakpoints.SetInstructionBreakpointsArguments.{SetInstructionBreakpointsArguments}
 use Rattle.handlers.specs.declared.terms.Terms.{Terms}
@@ -12,6 +12,6 @@ use Rattle.handlers.specs.Breaks as breaks
 abbrev pub demand : Demand
 demand = taken_in Debugging asks_program
 
--- what comes of it
+-- the answer, and what it changes
 abbrev pub success : Given → Terms → SetInstructionBreakpointsArguments → Answering
 success given terms arguments = breaks.success given terms (SetInstructionBreakpoints arguments)

@@ -27,6 +27,6 @@ abbrev pub sets_on : Option Program → Given → Terms → SetVariableArguments
 sets_on None given terms arguments = agreeing given terms body.Empty
 sets_on (Some p) given terms arguments = sets_by given terms (set_variable arguments p.machine given.numbers)
 
--- what comes of it
+-- the answer, and what it changes
 abbrev pub success : Given → Terms → SetVariableArguments → Answering
 success given terms arguments = sets_on given.debuggee.program given terms arguments

@@ -1,4 +1,4 @@
--- `next`, `stepIn` and `stepOut`: the program goes on, with a goal (DAP specification, `NextRequest`, `StepInRequest`,
+-- `next`, `stepIn` and `stepOut`: the program continues, with a goal (DAP specification, `NextRequest`, `StepInRequest`,
 -- `StepOutRequest`). A statement is a line.
 use Rattle.std.specs.Prelude.{ℤ}
 use Rattle.debuggee.specs.Programs.{resumed}
@@ -25,6 +25,6 @@ granularity_of asked.Instruction = Single
 abbrev pub demand : ℤ → Demand
 demand thread = taken_in Active (asks_still thread)
 
--- what comes of it
+-- the answer, and what it changes
 abbrev pub success : Given → Terms → Goal → Answering
 success given terms goal = resuming given terms (resumed goal) body.Empty

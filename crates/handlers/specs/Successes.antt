@@ -24,7 +24,7 @@ changing given terms f body = record {
   closes = false;
 }
 
--- One that lets it go on: what the stop has shown is stale then.
+-- One that lets it continue: what the stop has shown is stale then.
 abbrev pub resuming : Given → Terms → (Program → Program) → ResponseBody → Answering
 resuming given terms f body = record (changing given terms f body) { references = Some EndStop }
 

@@ -25,7 +25,7 @@ reason_of (why.Met met.Function) = reason.FunctionBreakpoint
 reason_of (why.Met met.Goal) = reason.Step
 reason_of (why.Met met.Start) = reason.Step
 
--- what more there is to say of a stop: of an exception, its name; and that a run back undid all moves that were recorded
+-- the text of a stop: an exception's name, that the instruction limit is reached, or that a run back undid all recorded moves
 abbrev pub text_of : Why → Option (List ℕ)
 text_of why.Entry = None
 text_of why.Pause = None

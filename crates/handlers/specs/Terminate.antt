@@ -14,6 +14,6 @@ use Rattle.handlers.specs.Successes.{changing}
 abbrev pub demand : Demand
 demand = taken_in Debugging asks_alive
 
--- what comes of it
+-- the answer, and what it changes
 abbrev pub success : Given → Terms → Answering
 success given terms = record (changing given terms (ended None) body.Empty) { events = event.Terminated ∷ [] }

@@ -28,6 +28,6 @@ writes_on None given terms arguments = agreeing given terms body.Empty
 writes_on (Some p) given terms arguments =
     writes_by given terms arguments.bytes (write_memory arguments p.machine.memory)
 
--- what comes of it
+-- the answer, and what it changes
 abbrev pub success : Given → Terms → WriteMemoryArguments → Answering
 success given terms arguments = writes_on given.debuggee.program given terms arguments

@@ -68,7 +68,7 @@ pub fn refusing(terms: Terms, refusal: Refusal, text: Option<Text>) -> Answer
     }
 }
 
-/// A success that changes the program that there is.
+/// A success that changes the program, if there is one.
 pub(crate) fn changing_program(change: ProgramChange, terms: Terms, body: ResponseBody) -> Answer
     ensures { (d : ADebuggee) → answering_as d result
         ≡ record {

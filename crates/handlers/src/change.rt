@@ -33,12 +33,12 @@ pub enum Change {
     OfProgram(ProgramChange),
 }
 
-/// What an answer makes of the program that there is.
+/// What an answer makes of the program, if there is one.
 #[derive(Drop)]
 pub enum ProgramChange {
     /// Its first run begins.
     Begin,
-    /// It goes on, with a goal.
+    /// It continues, with a goal.
     Resume(Goal),
     /// It is marked, if it runs.
     Mark(Mark),
@@ -126,7 +126,7 @@ fn start_anew(program: &mut Program) -> Result<(), AllocError>
     }
 }
 
-// The editor has left a program: it ends, or is to stand still, or goes on.
+// The editor has left a program: it ends, or is to stand still, or continues.
 fn depart(program: &mut Program, ends: bool, stands: bool)
     ensures { program.new ≡ departed ends stands program.old }
 {

@@ -9,13 +9,13 @@ use crate::phase::Phases;
 pub struct Demand {
     /// The phases.
     pub phases: Phases,
-    /// That there is one.
+    /// There is one.
     pub loaded: bool,
-    /// That it has not ended.
+    /// It has not ended.
     pub alive: bool,
-    /// That it has this thread.
+    /// It has this thread.
     pub thread: Option<i32>,
-    /// That it stands still.
+    /// It stands still.
     pub still: bool,
 }
 
@@ -33,7 +33,7 @@ impl Demand {
         }
     }
 
-    /// That there is a program.
+    /// There is a program.
     pub(crate) fn program() -> Demand
         ensures { result ≡ spec.asks_program }
     {
@@ -46,7 +46,7 @@ impl Demand {
         }
     }
 
-    /// That it has not ended.
+    /// It has not ended.
     pub(crate) fn alive() -> Demand
         ensures { result ≡ spec.asks_alive }
     {
@@ -59,7 +59,7 @@ impl Demand {
         }
     }
 
-    /// That it has not ended, and that this is its thread.
+    /// It has not ended, and this is its thread.
     pub(crate) fn thread(number: i32) -> Demand
         ensures { result ≡ spec.asks_thread number }
     {
@@ -72,7 +72,7 @@ impl Demand {
         }
     }
 
-    /// That it has not ended, and stands still.
+    /// It has not ended, and stands still.
     pub(crate) fn stopped() -> Demand
         ensures { result ≡ spec.asks_stopped }
     {
@@ -85,7 +85,7 @@ impl Demand {
         }
     }
 
-    /// That it has not ended, that this is its thread, and that it stands still.
+    /// It has not ended, this is its thread, and it stands still.
     pub(crate) fn still(number: i32) -> Demand
         ensures { result ≡ spec.asks_still number }
     {

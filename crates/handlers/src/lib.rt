@@ -1,4 +1,4 @@
-//! How requests are handled: in which phases each is taken, what it asks of the program that is debugged, and what comes of it.
+//! How requests are handled: in which phases each is taken, what it asks of the program that is debugged, and how it is answered.
 //!
 //! A request has a module of its own in `requests`, which is the list of them; why one is refused is in `refusals`. Nothing here
 //! knows of connections, of bytes, or which requests wait: an answer is made of what it is lent (`Lent`), and says what it changes

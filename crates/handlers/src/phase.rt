@@ -9,7 +9,7 @@ pub enum Phase {
     Fresh,
     /// `initialize` was answered.
     Initialized,
-    /// A program was launched, and the editor has not said all yet (`InitializedEvent`).
+    /// A program was launched or joined, and the editor has not said all yet (`InitializedEvent`).
     Configuring,
     /// `configurationDone` was answered.
     Active,
@@ -44,7 +44,7 @@ impl Phase {
         matches!(self, Phase::Fresh)
     }
 
-    /// Whether the editor may launch a program.
+    /// Whether the editor may launch or join a program.
     pub(crate) fn is_initialized(self) -> bool
         ensures { result ≡ spec.is_initialized_in self }
     {

@@ -66,7 +66,7 @@ pub fn demand_of(command: &Command) -> Demand
     }
 }
 
-/// What comes of the request where it is taken, and the program is as it asks. `Err`: no memory was left.
+/// The answer to a request that is taken where the program is as it asks. `Err`: no memory was left.
 pub fn success_of(alloc: Global, lent: &Lent, command: &Command) -> Result<Answer, AllocError>
     ensures { IfOk result (λ a. answering_as lent.now.given.debuggee a
         ≡ success_of lent.now.given lent.now.terms lent.now.file command.now) }

@@ -72,7 +72,7 @@ fn reason_of(why: Why) -> Reason
     }
 }
 
-// What more there is to say of a stop.
+// What the editor is told of a stop beside its reason.
 fn text_of(why: Why) -> Option<&'static str>
     ensures { option_map (λ text. text.now) result ≡ spec.text_of why }
 {

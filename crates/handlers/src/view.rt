@@ -8,7 +8,7 @@ use debuggee::Program;
 use protocol::Text;
 use std::alloc::{AllocError, Global};
 
-/// The path of the program's source, and the numbers that the editor has for a first line and a first column. It fails
+/// The path of the program's source, and the numbers that the editor gives a first line and a first column. It fails
 /// where no memory is left.
 pub(crate) fn view_of(alloc: Global, terms: Terms, program: &Program) -> Result<View, AllocError>
     ensures { IfOk result (λ view. view ≡ spec.view_of terms program.now) }

@@ -1,11 +1,7 @@
 -- What an editor knows fits to what there is now, so that what comes next can be told.
-use Rattle.headline.proofs.Common.{Active, Bool, Configuring, Facts, Fresh, Holds, HoldsAt, HoldsRun, in_state, Initialized, is_running, Left, List, Mark, marked, marked_by, None, nothing_known, number_in, Numbers, on_program, Option, Phase, Program, refl, Run, Running, RunState, shown_by, shown_of, slice_get, Some, subst, sym, Terms, true, Unknown, ℕ, ⊤, ◌∙◌, ◌≡◌}
-use Rattle.std.proofs.Common.{[]}
+use Rattle.headline.proofs.Common.{[], Active, Bool, Configuring, Facts, Frame, FrameInfo, Fresh, Holds, HoldsAt, HoldsRun, in_state, Initialized, is_running, Left, List, Mark, marked, marked_by, None, nothing_known, number_in, Numbers, on_program, Option, Phase, Program, refl, Run, Running, RunState, shown_by, shown_of, slice_get, Some, subst, sym, Terms, true, unknown, Unknown, ℕ, ⊤, ◌∙◌, ◌≡◌}
 use Rattle.debuggee.specs.declared.run.Run.TheVariants as a_run
-use Rattle.facts.specs.Facts.{unknown}
-use Rattle.facts.specs.declared.frame.FrameInfo.{FrameInfo}
 use Rattle.facts.specs.declared.run.RunState.TheVariants.{Stopped, Ended}
-use Rattle.variables.specs.declared.target.Target.TheVariants.{Frame}
 
 -- nothing is known of the machine as it stands still
 pub record KnowsNoStand (f : Facts) : Type 0 where

@@ -1,22 +1,16 @@
 -- Each beat of a slice leads to what is known and fits.
-use Rattle.headline.proofs.Common.{ap, Beat, beat_by, beat_of, Bool, by_move, ends, entered, Facts, FULL, goes, goes_unless, HoldsRun, if_keeps, info_of, is_active, is_active_in, is_at_limit, is_configuring, is_runnable_by, is_running, List, listed_at, ltb, map, Mark, moved, moves_by, next_tick, None, not, Now, Numbers, Ok, Option, Placed, Program, refl, Result, Run, Seen, shown_of, Some, state_of, subst, sym, Terms, Tick, true, why_marked, ℕ, ◌∙◌, ◌∷◌, ◌≡◌}
-use Rattle.std.proofs.Common.{[]}
+use Rattle.headline.proofs.Common.{[], ap, Beat, beat_by, beat_of, Bool, BreakInfo, by_move, checked, counted, ends, entered, Facts, FULL, goes, goes_unless, Hart, HoldsRun, if_keeps, info_of, is_active, is_active_in, is_at_limit, is_configuring, is_hit, is_runnable_by, is_running, List, listed_at, Lists, ltb, map, Mark, moved, moves_by, next_tick, None, not, Now, Numbers, Ok, Option, Outcome as CameTo, Placed, Program, refl, Result, Run, runs, Seen, shown_of, Some, state_of, subst, sym, Terms, Tick, true, why_marked, with_hit, ℕ, ◌∙◌, ◌∷◌, ◌≡◌}
 use Rattle.std.specs.declared.alloc.AllocError.{AllocError}
-use Rattle.breakpoints.specs.Stops.{Lists, checked, counted, is_hit, with_hit}
 use Rattle.debuggee.specs.declared.run.Why.TheVariants as why
-use Rattle.facts.specs.declared.breakpoint.BreakInfo.{BreakInfo}
-use Rattle.rv32i.specs.declared.hart.Hart.{Hart}
 use Rattle.rv32i.specs.declared.instr.Instr.{Instr}
 use Rattle.rv32i.specs.declared.stepped.Stepped.{Stepped}
 use Rattle.rv32i.specs.declared.stepped.Stepped.TheVariants as stepped
-use Rattle.session.specs.Slices.{runs}
 use Rattle.stepping.proofs.Existing.{the_tick}
 use Rattle.course.specs.Positions.{Position}
 use Rattle.stepping.specs.Ticks.{Debugged, IsTick, entry_checked, looked_at, moved_as, settled, stayed, undone_by}
 use Rattle.stepping.specs.declared.goal.Goal.{Goal}
 use Rattle.stepping.specs.declared.goal.Goal.TheVariants as goal
 use Rattle.stepping.proofs.Cases.{by_tick}
-use Rattle.stepping.specs.declared.tick.Outcome.{Outcome as CameTo}
 use Rattle.stepping.specs.declared.tick.Reason.TheVariants as met
 use Rattle.headline.proofs.Agreeing.{Agrees, OwesOf, OwesRunning, holds_moving, never}
 use Rattle.headline.proofs.Leading.{Leads, SameBut, exits_lead, halts_lead, telling_leads}
@@ -49,11 +43,9 @@ checked_same pc hart memory lists =
     }
 
 settled_same : (s : Stepped) (instr : Option Instr) (before d : Debugged) → SameBreaks d.lists (settled s instr before d).lists
-settled_same stepped.Retired instr before d = checked_same d.hart.pc d.hart d.memory d.lists
-settled_same (stepped.Printed number) instr before d = checked_same d.hart.pc d.hart d.memory d.lists
-settled_same stepped.Break instr before d = checked_same d.hart.pc d.hart d.memory d.lists
 settled_same (stepped.Exit code) instr before d = record { source = refl; instructions = refl; functions = refl }
 settled_same (stepped.Trap cause) instr before d = record { source = refl; instructions = refl; functions = refl }
+settled_same _ instr before d = checked_same d.hart.pc d.hart d.memory d.lists
 
 stayed_same : (past : List Position) (d : Debugged) → SameBreaks d.lists (stayed (undone_by past d)).lists
 stayed_same [] d = record { source = refl; instructions = refl; functions = refl }
@@ -63,11 +55,7 @@ stayed_same (before ∷ past) d = record { source = refl; instructions = refl; f
 looked_same : (g : Goal) (past : List Position) (d : Debugged) → SameBreaks d.lists (looked_at g (undone_by past d)).lists
 looked_same goal.ReverseGo [] d = record { source = refl; instructions = refl; functions = refl }
 looked_same goal.ReverseGo (before ∷ past) d = record { source = refl; instructions = refl; functions = refl }
-looked_same goal.Go past d = stayed_same past d
-looked_same (goal.In granularity) past d = stayed_same past d
-looked_same (goal.Over granularity) past d = stayed_same past d
-looked_same (goal.Out granularity) past d = stayed_same past d
-looked_same goal.Back past d = stayed_same past d
+looked_same _ past d = stayed_same past d
 
 tick_same : (before after : Debugged) (answer : Result Tick AllocError) → IsTick before answer after → SameBreaks before.lists after.lists
 tick_same before after answer is =
@@ -97,7 +85,7 @@ entered_same p =
 -- ---- beats
 
 module _ (terms : Terms) (numbers : Numbers) (f : Facts) where
-  -- a program that runs goes on, and nothing is told
+  -- a program that runs continues, and nothing is told
   goes_agrees : (p q : Program) → is_running p.run ≡ true → SameBut p q → q.run ≡ p.run → Agrees f (Some p) numbers terms
       → Agrees f (Some q) numbers terms
   goes_agrees p q runs same run h =

@@ -1,8 +1,5 @@
 -- `setVariable` and `writeMemory`: what is known of registers and of memory is so after the change.
-use Rattle.headline.proofs.Common.{ap, arith, Bool, bytes_eq, codes, cond, eqb, Err, Facts, false, HoldsAt, if_keeps, IfOk, inl, inr, is_active_in, is_running, leb, length, List, ltb, min, nat_tests, None, not, Numbers, Ok, Option, Program, range_with_len, refl, Refusal, register_at, register_of, Result, slice_get, slice_index, Some, subst, suc, succeeded, sym, Target, Terms, true, valued, with_hart, written, zero, ℕ, ◌&&◌, ◌+◌, ◌<◌, ◌∙◌, ◌∷◌, ◌≡◌, ◌≤◌, ◌⊎◌}
-use Rattle.std.proofs.Common.{◌-◌, [], take, drop}
-use Rattle.std.specs.Prelude.{slice_set, find, ◌%◌, ◌^◌}
-use Rattle.std.proofs.lemmas.List.{length-take}
+use Rattle.headline.proofs.Common.{[], ap, arith, Bool, bytes_eq, codes, cond, drop, eqb, Err, Facts, false, find, Hart, HoldsAt, if_keeps, IfOk, inl, inr, is_active_in, is_running, leb, length, length-take, List, ltb, min, nat_tests, None, not, Numbers, Ok, Option, Program, range_with_len, refl, Refusal, register_at, register_of, Result, slice_get, slice_index, slice_set, Some, subst, suc, succeeded, sym, take, Target, Terms, true, valued, with_hart, written, zero, ℕ, ◌%◌, ◌&&◌, ◌+◌, ◌-◌, ◌<◌, ◌^◌, ◌∙◌, ◌∷◌, ◌≡◌, ◌≤◌, ◌⊎◌}
 use Rattle.answers.proofs.ProperValues.{writings_fit}
 use Rattle.answers.specs.ReadMemory.{can_begin, start_at}
 use Rattle.numerals.specs.MemoryReferences.{address_in, offset_by}
@@ -22,7 +19,6 @@ use Rattle.protocol.specs.declared.set_variable.SetVariableArguments.{SetVariabl
 use Rattle.protocol.specs.declared.write_memory.WriteMemoryArguments.{WriteMemoryArguments}
 use Rattle.range_laws.specs.Machines.{AreRegisters}
 use Rattle.rv32i.specs.Names.{name_of, number_named}
-use Rattle.rv32i.specs.declared.hart.Hart.{Hart}
 use Rattle.variables.specs.Registers.{name_answer, unless_zero}
 use Rattle.variables.specs.Values.{value_of}
 use Rattle.variables.specs.declared.target.Target.TheVariants as target

@@ -1,8 +1,5 @@
--- What there is to show of the success of a command: that what it tells is so, and that what is known then fits.
-use Rattle.headline.proofs.Common.{answered, Answering, Asked, BoundsIn, Facts, given_of, Holds, List, map, Meets, None, Now, Option, Program, Refusal, run_of, shown_by, Some, subst, sym, Tell, Terms, true, ℕ, ◌≡◌}
-use Rattle.mirror.specs.Requests.{asked_of}
-use Rattle.protocol.specs.declared.command.Command.{Command}
-use Rattle.session.proofs.Orderly.{OrderlyIn}
+-- What has to be shown of the success of a command: what it tells is so, and what is known then fits.
+use Rattle.headline.proofs.Common.{answered, Answering, Asked, asked_of, BoundsIn, Command, Facts, given_of, Holds, List, map, Meets, None, Now, Option, OrderlyIn, Program, Refusal, run_of, shown_by, Some, subst, sym, Tell, Terms, true, ℕ, ◌≡◌}
 use Rattle.range_laws.specs.Requests.{GivesBytes}
 use Rattle.session.specs.References.{referred}
 use Rattle.handlers.specs.Requests.{demand_of, is_taken_in, success_of}
@@ -26,7 +23,6 @@ refusal_leads now terms f asked refusal text h =
     subst (λ (g : Facts). Holds g (shown_by now.debuggee.program now.numbers) × Agrees g now.debuggee.program now.numbers terms)
     (sym (refused_tells asked refusal text f)) (h.holds, h)
 
--- nothing is owed
 abbrev pub OwesNothing : Option Program → Type 0
 OwesNothing None = Unit {0}
 OwesNothing (Some p) = p.owed ≡ None

@@ -1,8 +1,6 @@
 -- What was so at each message was so at the last one of any prefix.
-use Rattle.headline.proofs.Common.{Asked, Facts, folded, frame_said, Holds, if_keeps, known_after, length, List, nat_le, Option, refl, Said, shown, Snapshot, Some, told_within, ℕ, ⊤, ◌++◌, ◌∷◌, ◌≡◌}
-use Rattle.std.proofs.Common.{[]}
+use Rattle.headline.proofs.Common.{[], Asked, Facts, folded, frame_said, Holds, if_keeps, known_after, last_seen, length, List, nat_le, Option, refl, Said, shown, Snapshot, Some, told_within, WasSo, ℕ, ⊤, ◌++◌, ◌∷◌, ◌≡◌}
 use Rattle.std.specs.Prelude.{◌-◌}
-use Rattle.headline.specs.Concluding.{WasSo, last_seen}
 
 -- what is known after each of these messages was so when it was queued
 abbrev pub AllHold : (ℕ → Option Asked) → Facts → List Said → Type 0

@@ -1,19 +1,15 @@
 -- An editor tells its mirror requests and feeds it bytes, in turn: the facts are those of the whole messages among these bytes.
-use Rattle.headline.proofs.Common.{All, All-cons, All-head, All-nil, All-tail, answered, ap, arith, Ask, Asked, Bool, cond, Done, eqb, Facts, false, first_asked, folded, frame_said, inl, inr, known_after, leb, length, length-append, Life, List, map, Message, nat_tests, None, nothing_known, Option, refl, Refused, remembered, Said, Some, subst, sym, take-append-drop, told_within, true, ℕ, ◌++◌, ◌+◌, ◌<◌, ◌∙◌, ◌∷◌, ◌≡◌, ◌≤◌, ◌⊎◌}
-use Rattle.std.proofs.Common.{◌-◌, [], fold, take, drop, option_map, append-nil, append_assoc}
+use Rattle.headline.proofs.Common.{[], All, All-cons, All-head, All-nil, All-tail, answered, ap, append-nil, append_assoc, arith, Ask, Asked, asked_of, Bad, Bool, bytes_of, cond, Done, drop, eqb, Facts, false, first_asked, fold, folded, frame_said, inl, inr, kept_first, known_after, leb, length, length-append, Life, List, map, map-append, Message, nat_tests, None, nothing_known, Option, refl, Refused, remembered, Request as ARequest, Response as IsResponse, Said, Some, subst, sym, take, take-append-drop, told_of, told_within, true, ℕ, ◌++◌, ◌+◌, ◌-◌, ◌<◌, ◌∙◌, ◌∷◌, ◌≡◌, ◌≤◌, ◌⊎◌}
+use Rattle.std.proofs.Common.{option_map}
 use Rattle.std.proofs.Math.Seq.{drop-append_seam}
-use Rattle.std.proofs.lemmas.List.{map-append}
 use Rattle.mirror.proofs.Lawful.{inputs_make_pasts}
-use Rattle.mirror.specs.Requests.{asked_of, kept_first, told_of}
 use Rattle.mirror.specs.Streams.{Input, Past, after, messages_so_far, newly_whole, stream_fault}
 use Rattle.mirror.specs.Streams.Input.{Sent, Fed}
-use Rattle.protocol.specs.declared.request.Request.{Request as ARequest}
-use Rattle.replies.specs.declared.message.Message.TheVariants.{Response as IsResponse, Event as IsEvent}
+use Rattle.replies.specs.declared.message.Message.TheVariants.{Event as IsEvent}
 use Rattle.replies.specs.declared.response.Outcome.{Outcome}
 use Rattle.session.specs.Kinds.{is_success}
 use Rattle.session.specs.Prefixes.{IsPrefixOf}
-use Rattle.session.specs.Sessions.{bytes_of}
-use Rattle.queues.specs.declared.pending.Ask.TheVariants.{Request, Bad}
+use Rattle.queues.specs.declared.pending.Ask.TheVariants.{Request}
 use Rattle.headline.proofs.Readable.{IsReadable, framed_some, has_no_fault, messages_within}
 use Rattle.headline.proofs.Remembering.{refused_tells}
 use Rattle.headline.specs.Editors.{AreTold, IsEditor, IsTold, fed_in, first_told, requests_in, sent_in, told_first}
@@ -127,7 +123,7 @@ record MoreTold (count more : ℕ) (said : List Said) : Type 0 where
   news : List Said
   are : told_within (count + more) said ≡ told_within count said ++ news
 
--- what more bytes make of messages of which the first is m
+-- what more bytes make of messages that begin with m
 module _ (m : Said) (said : List Said) (count more : ℕ) (rest : MoreTold (count - length (frame_said m)) more said) where
   abbrev Both : Bool → Bool → Type 0
   Both a b =

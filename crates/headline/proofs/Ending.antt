@@ -1,14 +1,11 @@
 -- `configurationDone`, `terminate` and `disconnect`: what their successes tell is so.
-use Rattle.headline.proofs.Common.{Active, ap, begins, Bool, cond, Configuring, ended, Facts, false, first_run, Fresh, given_of, has_none, Holds, HoldsRun, in_state, Initialized, is_debugging_in, is_ended, joins, Left, List, map, Meets, None, Now, Numbers, on_program, Option, Phase, Program, refl, Run, run_events, run_of, Running, RunState, shown_by, shown_of, Some, state_of, subst, sym, Tell, Terms, true, Unknown, ℕ, ◌∷◌, ◌≡◌}
-use Rattle.std.proofs.Common.{[]}
+use Rattle.headline.proofs.Common.{[], Active, ap, begins, Bool, cond, Configuring, ended, Facts, false, first_run, Fresh, given_of, has_ended, has_none, Holds, HoldsRun, in_state, Initialized, is_configuring_in, is_debugging_in, is_ended, joins, Left, List, map, Meets, None, Now, Numbers, on_program, Option, Phase, Program, refl, Run, run_events, run_of, Running, RunState, shown_by, shown_of, Some, state_of, subst, sym, Tell, Terms, true, Unknown, ℕ, ◌∷◌, ◌≡◌}
 use Rattle.debuggee.specs.declared.run.Run.TheVariants as a_run
 use Rattle.mirror.specs.Folding.{ended as ended_as}
 use Rattle.mirror.specs.declared.asked.Asked.TheVariants as asks
 use Rattle.facts.specs.declared.run.RunState.TheVariants.{Stopped, Ended}
 use Rattle.replies.specs.declared.event.Event.TheVariants as event
-use Rattle.handlers.specs.Demands.{has_ended}
 use Rattle.handlers.specs.Terminate.{demand}
-use Rattle.handlers.specs.Phases.{is_configuring_in}
 use Rattle.handlers.specs.Terminate as terminate
 use Rattle.headline.proofs.Agreeing.{Agrees, SuitsPhase, WhileConfiguring, holds_in, no_stand_in, none_numbered}
 use Rattle.headline.proofs.Commands.{AnswerLeads}

@@ -1,10 +1,7 @@
 -- Whatever happens on a connection, each message was so when it was queued, and what is known fits.
-use Rattle.headline.proofs.Common.{Act, All, Answering, answering, arith, Become, Bool, closing, Facts, false, folded, histories, Holds, hung_on, if_keeps, known_after, Life, Link, List, ltb, map, Message, nat_tests, None, nothing_known, number_of, Numbers, on, on_with, Option, Pending, performed, performed_append, Program, remembered, replied_on, response_to, said_next, saying, Session, shown, snapshot_of, Some, subst, sym, Tell, true, with_change, ℕ, ⊤, ◌<◌, ◌∷◌, ◌≡◌}
-use Rattle.std.proofs.Common.{[], ltb-true}
-use Rattle.replies.specs.declared.event.Event.{Event as Told}
-use Rattle.replies.specs.declared.message.Message.TheVariants.{Response as IsResponse, Event as IsEvent}
+use Rattle.headline.proofs.Common.{[], Act, All, answering, Answering, arith, Become, Bool, closing, Event as Told, Facts, false, folded, histories, Holds, hung_on, if_keeps, known_after, Life, Link, List, ltb, ltb-true, map, Message, nat_tests, None, nothing_known, number_of, Numbers, on, on_with, Option, Pending, performed, performed_append, Program, remembered, replied_on, Response as IsResponse, response_to, said_next, saying, Session, shown, snapshot_of, Some, subst, sym, Tell, true, with_change, with_said, ℕ, ⊤, ◌<◌, ◌∷◌, ◌≡◌}
+use Rattle.replies.specs.declared.message.Message.TheVariants.{Event as IsEvent}
 use Rattle.session.specs.References.{referred}
-use Rattle.session.specs.Sessions.{with_said}
 use Rattle.headline.proofs.Agreeing.{Agrees, OwesOf}
 use Rattle.headline.proofs.Commands.{AnswerLeads}
 use Rattle.headline.proofs.Cutting.{AllHold, all_hold_more, known_more}

@@ -1,13 +1,8 @@
 -- What the beats of a slice queue, where it makes no move, or one that comes first.
-use Rattle.headline.proofs.Common.{Act, after_beat, ap, Beat, beat, beat_by, beat_of, becomes, Bool, by_move, concludes, cond, ends, entered, exits, false, FULL, goes, goes_unless, histories, if_keeps, is_at_limit, is_runnable_by, is_running, IsFollowed, List, logged, ltb, Mark, moved, moves_by, next_tick, None, not, Now, Option, output_events, performed, performed_append, performed_on, Program, program_of, refl, Running, Session, shown_of, sight_by, SliceEnd, Snapshot, Some, subst, sym, telling, tells, Tick, told, true, Went, why_marked, ℕ, ℤ, ◌∙◌, ◌∷◌, ◌≡◌}
-use Rattle.std.proofs.Common.{[]}
+use Rattle.headline.proofs.Common.{[], Act, after_beat, ap, beat, Beat, beat_by, beat_of, becomes, Bool, by_move, concludes, cond, Ended, ending_of, ends, entered, Event, exits, false, FULL, goes, goes_unless, histories, if_keeps, is_at_limit, is_runnable_by, is_running, IsFollowed, List, logged, ltb, makes_move, Mark, moved, moves_by, next_tick, None, not, Now, Option, Outcome as CameTo, output_events, performed, performed_append, performed_on, Program, program_of, refl, Running, Session, shown_of, sight_by, SliceEnd, Snapshot, Some, Stopped, stops, subst, sym, telling, tells, Tick, told, true, Went, why_marked, ℕ, ℤ, ◌∙◌, ◌∷◌, ◌≡◌}
 use mathlib.Core.Path.{fun_ext}
 use Rattle.debuggee.specs.declared.run.Why.TheVariants as why
-use Rattle.replies.specs.declared.event.Event.{Event}
-use Rattle.session.specs.Slices.{ending_of, makes_move, stops}
 use Rattle.session.specs.declared.event.SliceEnd.TheVariants as ending
-use Rattle.stepping.specs.declared.tick.Outcome.{Outcome as CameTo}
-use Rattle.stepping.specs.declared.tick.Outcome.TheVariants.{Stopped, Ended}
 use Rattle.stepping.specs.declared.tick.Reason.TheVariants as met
 use Rattle.headline.proofs.Agreeing.{OwesOf, OwesRunning, never}
 use Rattle.headline.proofs.Beating.{entered_same}
@@ -38,7 +33,7 @@ same_as a b c e same = subst (λ (x : Option Program). Same x c) (sym e) same
 
 -- ---- a beat
 
--- What a beat leaves: all that was queued fits. Where it goes on, that is what was printed, and what logpoints say.
+-- What a beat leaves: all that was queued fits. Where the slice continues, that is what was printed, and what logpoints say.
 pub record Follows (s t : Session) (b : Beat) : Type 0 where
   pub told : IsFollowed s (after_beat histories b t)
   pub printed : b.ending ≡ None → Printed s (after_beat histories b t)

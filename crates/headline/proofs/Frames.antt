@@ -1,8 +1,7 @@
 -- The bodies in the first bytes of frames: those of the frames that lie wholly in them.
-use Rattle.headline.proofs.Common.{All, All-head, All-tail, ap, arith, Bool, false, flat_map, length, length-append, List, map, nat_le, nat_tests, refl, suc, sym, take-append-drop, true, zero, ℕ, ◌++◌, ◌+◌, ◌<◌, ◌∙◌, ◌∷◌, ◌≡◌, ◌≤◌}
-use Rattle.std.proofs.Common.{◌-◌, ◌^◌, [], take, drop}
-use Rattle.std.specs.Prelude.{if◌then◌else◌}
-use Rattle.std.proofs.lemmas.List.{take-append-le, length-take-le, append-nil, append_assoc}
+use Rattle.headline.proofs.Common.{[], All, All-head, All-tail, ap, arith, Bool, drop, false, flat_map, if◌then◌else◌, length, length-append, length-take-le, List, map, nat_le, nat_tests, refl, suc, sym, take, take-append-drop, take-append-le, true, zero, ℕ, ◌++◌, ◌+◌, ◌-◌, ◌<◌, ◌∙◌, ◌∷◌, ◌≡◌, ◌≤◌}
+use Rattle.std.proofs.Common.{◌^◌}
+use Rattle.std.proofs.lemmas.List.{append-nil, append_assoc}
 use Rattle.framing.specs.Frames.{AreFrames, minimal_frame}
 use Rattle.framing.specs.Reading.{Reading, Tail, reading_of, with_body}
 use Rattle.framing.specs.Reading.Tail.{Partial, Faulty}
@@ -84,7 +83,7 @@ module _ (limit : ℕ) (narrow : limit < 2 ^ 32) where
       by_bodies body x y few whole (reading_of limit x).bodies r.framed.prefix r.rest r.framed.whole r.framed.frames some
 
   module _ {A : Type 0} (text frame : A → List ℕ) (is_frame : (a : A) → frame a ≡ minimal_frame (text a)) where
-    -- those of which the frames lie wholly in so many bytes
+    -- those whose frames lie wholly in this many bytes
     abbrev pub within : ℕ → List A → List A
     within count [] = []
     within count (a ∷ others) = if nat_le (length (frame a)) count then a ∷ within (count - length (frame a)) others else []

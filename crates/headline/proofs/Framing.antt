@@ -1,18 +1,12 @@
 -- `stackTrace`: the frames that its success tells are those of the call stack, by the numbers that they have.
-use Rattle.headline.proofs.Common.{ap, arith, Bool, cond, eqb, Facts, false, frame_at, frame_in, has, if_keeps, is_active_in, is_running, length, List, map, nat_tests, None, number_from, number_in, Numbers, Option, Program, range_with_len, refl, shown_of, slice_get, slice_index, Some, subst, suc, sym, Target, Terms, true, with_all, with_one, with_targets, zero, ℕ, ◌++◌, ◌+◌, ◌<◌, ◌||◌, ◌∙◌, ◌∷◌, ◌≡◌}
-use Rattle.std.proofs.Common.{[], take, drop}
-use Rattle.std.specs.Prelude.{unwrap_or}
-use Rattle.std.specs.List.{list_any}
+use Rattle.headline.proofs.Common.{[], addresses, ap, arith, Bool, cond, drop, eqb, Facts, false, Frame, frame_at, frame_in, frame_of, FrameInfo, frames_given, has, if_keeps, indices, is_active_in, is_running, length, List, list_any, map, nat_tests, None, number_from, number_in, Numbers, Option, over, Program, range_with_len, refl, shown_of, slice_get, slice_index, Some, subst, suc, sym, take, Target, Terms, true, unwrap_or, with_all, with_one, with_targets, zero, ℕ, ◌++◌, ◌+◌, ◌<◌, ◌||◌, ◌∙◌, ◌∷◌, ◌≡◌}
 use Rattle.answers.specs.Parts.{part}
-use Rattle.answers.specs.StackTrace.{addresses, frame_at as frame_told, frames_given, indices}
+use Rattle.answers.specs.StackTrace.{frame_at as frame_told}
 use Rattle.answers.specs.Targets.{number_for}
 use Rattle.answers.specs.declared.view.View.{View}
-use Rattle.mirror.specs.Folding.{frame_of, over}
-use Rattle.facts.specs.declared.frame.FrameInfo.{FrameInfo}
 use Rattle.protocol.specs.declared.stack_trace.StackTraceArguments.{StackTraceArguments}
 use Rattle.variables.specs.References.{is_same}
 use Rattle.variables.specs.declared.target.Target.TheVariants as target
-use Rattle.variables.specs.declared.target.Target.TheVariants.{Frame}
 use Rattle.headline.proofs.Agreeing.{Agrees}
 use Rattle.headline.proofs.Leading.{suits_as}
 use Rattle.headline.proofs.Placing.{get_take, over_all}

@@ -1,17 +1,9 @@
 -- Each success answers the first request that came with its number.
-use Rattle.headline.proofs.Common.{All, All-cons, All-head, All-nil, All-push, All-tail, AllKnown, answer_to, Answering, answering, ap, arith, Ask, asks_of, Beginning, Bool, closing, cond, Done, each_life, eqb, false, first_asked, Happened, histories, hung_on, if_keeps, is_repeat, IsKnownBy, IsKnownIn, Link, List, ltb, map, Message, nat_tests, no_life, None, not, Now, number_of, of_answer, on, on_with, Option, Pending, performed, performed_append, performed_on, Reached, reached_by_events, read_on, refl, Refused, replied_on, response_to, Said, said_next, said_on, saying, Session, Some, subst, sym, Tell, Terms, true, with_change, ℕ, ⊤, ◌&&◌, ◌++◌, ◌+◌, ◌<◌, ◌∙◌, ◌∷◌, ◌≡◌, ◌≤◌}
-use Rattle.std.proofs.Common.{[], append-nil, append_assoc}
+use Rattle.headline.proofs.Common.{[], All, All-cons, All-head, All-nil, All-push, All-tail, all_joined, AllKnown, answer_to, answering, Answering, ap, append-nil, append_assoc, arith, Arrivals, Ask, asks_of, Bad, Beginning, Bool, Cancelled, cancelled_by, cancels, closing, cond, Done, each_life, eqb, Event as Told, false, Fate, fate_of_cancel, first_asked, Happened, histories, hung_on, if_keeps, is_above, is_named, is_repeat, IsKnown, IsKnownBy, IsKnownIn, joined, KeptByEvents, Link, List, ltb, map, Message, NamesNone, nat_tests, no_life, None, not, Now, number_of, of_answer, on, on_with, Option, Pending, pending_with, performed, performed_append, performed_on, Reached, reached_by_events, read_on, refl, Refused, Repeated, replied_on, Request as ARequest, Response as IsResponse, response_to, Said, said_next, said_on, saying, Session, Some, subst, SuccessesAreKnown, sym, Tell, Terms, true, Waits, with_change, ℕ, ⊤, ◌&&◌, ◌++◌, ◌+◌, ◌<◌, ◌∙◌, ◌∷◌, ◌≡◌, ◌≤◌}
 use Rattle.protocol.specs.Commands.{name_of}
-use Rattle.protocol.specs.declared.request.Request.{Request as ARequest}
-use Rattle.replies.specs.declared.event.Event.{Event as Told}
-use Rattle.replies.specs.declared.message.Message.TheVariants.{Response as IsResponse, Event as IsEvent}
+use Rattle.replies.specs.declared.message.Message.TheVariants.{Event as IsEvent}
 use Rattle.replies.specs.declared.response.Outcome.{Outcome}
-use Rattle.queues.specs.declared.pending.Ask.TheVariants.{Request, Bad}
-use Rattle.queues.specs.declared.pending.Fate.{Fate}
-use Rattle.queues.specs.declared.pending.Fate.TheVariants.{Waits, Repeated, Cancelled, NamesNone}
-use Rattle.queues.specs.Arrivals.{Arrivals, all_joined, cancelled_by, cancels, fate_of_cancel, is_above, is_named, joined, pending_with}
-use Rattle.session_laws.proofs.Turning.{KeptByEvents}
-use Rattle.headline.specs.Known.{IsKnown, SuccessesAreKnown}
+use Rattle.queues.specs.declared.pending.Ask.TheVariants.{Request}
 
 -- ---- more requests come
 

@@ -1,16 +1,11 @@
 -- What a program does and tells, act by act: each thing that is told is so, and in the end what is known fits.
-use Rattle.headline.proofs.Common.{Act, Active, ap, Become, Bool, concludes, cond, Configuring, ended, exit_events, exits, Facts, false, Fresh, halts, happened, Holds, HoldsRun, in_state, Initialized, is_active, is_active_in, is_running, Left, List, logged, map, None, Now, Numbers, Option, output_events, Phase, Program, refl, Run, Running, RunState, shown_by, shown_of, Some, state_of, stop_event, stopped, subst, sym, Tell, telling, tells, Terms, Tick, told, true, Unknown, Went, Why, ℕ, ℤ, ⊤, ◌++◌, ◌∙◌, ◌∷◌, ◌≡◌}
-use Rattle.std.proofs.Common.{[]}
+use Rattle.headline.proofs.Common.{[], Act, Active, ap, Become, Bool, concludes, cond, Configuring, ended, Ended as HasEnded, Event as Told, exit_events, exits, Facts, false, Fresh, halts, happened, HasEnded as HasEndedSo, Holds, HoldsRun, in_state, Initialized, is_active, is_active_in, is_running, Left, List, logged, map, None, Now, Numbers, Option, Outcome as CameTo, output_events, Phase, Program, refl, Run, Running, RunState, shown_by, shown_of, Some, state_of, stop_event, stopped, Stopped as HasStopped, subst, sym, Tell, telling, tells, Terms, Tick, told, true, Unknown, Went, Why, ℕ, ℤ, ⊤, ◌++◌, ◌∙◌, ◌∷◌, ◌≡◌}
 use Rattle.debuggee.specs.declared.run.Run.TheVariants as a_run
 use Rattle.debuggee.specs.declared.run.Why.TheVariants as why
 use Rattle.facts.specs.declared.run.RunState.TheVariants.{Stopped, Ended}
-use Rattle.replies.specs.declared.event.Event.{Event as Told}
 use Rattle.replies.specs.declared.event.Event.TheVariants as event
-use Rattle.stepping.specs.declared.tick.Outcome.{Outcome as CameTo}
-use Rattle.stepping.specs.declared.tick.Outcome.TheVariants.{Stopped as HasStopped, Ended as HasEnded}
 use Rattle.headline.proofs.Agreeing.{Agrees, IsQuiet, SuitsPhase, holds_in, holds_moving, no_stand_in, none_numbered, nothing_holds}
 use Rattle.headline.proofs.Outputs.{AreOutput, IsOutput, tick_is_output}
-use Rattle.headline.specs.Holding.{HasEnded as HasEndedSo}
 
 -- what these acts tell is so, and what is known after them fits
 unfoldable pub Leads : Terms → Numbers → Facts → Option Program → List Act → Type 0
@@ -91,11 +86,9 @@ no_other phase none is = absurd (let no : true ≡ false = sym (ap is_active_in 
 
 pub suits_as : (phase : Phase) (launched : Bool) (f g : Facts) → is_active_in phase ≡ true → g.launched ≡ f.launched
     → SuitsPhase phase launched f → SuitsPhase phase launched g
-suits_as Fresh launched f g e same h = absurd (let no : false ≡ true = e in cc)
-suits_as Initialized launched f g e same h = absurd (let no : false ≡ true = e in cc)
-suits_as Configuring launched f g e same h = absurd (let no : false ≡ true = e in cc)
 suits_as Active launched f g e same h = same ∙ h
 suits_as Left launched f g e same h = absurd (let no : false ≡ true = e in cc)
+suits_as _ launched f g e same h = absurd (let no : false ≡ true = e in cc)
 
 module _ (terms : Terms) (numbers : Numbers) (f : Facts) where
   stops_lead : (p : Program) (why : Why) (ids : List ℕ) (told : Bool) → is_active_in terms.phase ≡ told → is_running p.run ≡ true

@@ -1,6 +1,5 @@
 -- The success of each command: what it tells is so, and what it leaves owes as it may.
-use Rattle.headline.proofs.Common.{Active, Answering, ap, Asked, begins, Bool, cond, ended, Facts, false, first_run, given_of, has_none, Holds, if_keeps, IfOk, in_state, is_active_in, is_ended, is_running, joins, left, length, List, marked, None, not, nothing_known, Now, Ok, on_program, Option, Program, refl, Refusal, ResponseBody, restarted, Result, resumed, run_of, Running, shown_by, Some, stopped, subst, succeeded, sym, Terms, true, Wanted, with_functions, with_hart, with_instructions, with_source, with_targets, written, ◌&&◌, ◌+◌, ◌∙◌, ◌≡◌}
-use Rattle.std.proofs.Common.{IsTrue}
+use Rattle.headline.proofs.Common.{Active, agreed_body, agrees, Answering, ap, Asked, asked_of, at_next_stop, begins, Bool, by_success, BySuccess, Command, cond, ended, Facts, false, first_run, frames_given, given_of, goes_on as still_goes, has_none, has_program, Holds, if_keeps, IfOk, in_state, is_active_in, is_ended, is_running, IsTrue, joins, left, length, List, Looks, marked, None, not, not_absent, nothing_known, Now, Ok, on_program, Option, Orderly, OrderlyIn, OrderlyOf, Program, refl, Refusal, ResponseBody, restarted, Result, resumed, run_of, Running, SetsList, shown_by, Some, step_body, steps, stopped, subst, succeeded, sym, Terms, true, Wanted, with_functions, with_hart, with_instructions, with_source, with_targets, written, ◌&&◌, ◌+◌, ◌∙◌, ◌≡◌}
 use Rattle.std.specs.Prelude.{[], take}
 use Rattle.numerals.specs.Words.{word_of}
 use Rattle.answers.specs.Targets.{target_of}
@@ -12,19 +11,14 @@ use Rattle.headline.proofs.Leading.{Leads, SameBut}
 use Rattle.debuggee.specs.declared.run.Run.TheVariants as a_run
 use Rattle.replies.specs.declared.response.ResponseBody.TheVariants as body
 use Rattle.mirror.specs.declared.asked.Asked.TheVariants as asks
-use Rattle.protocol.specs.declared.command.Command.{Command}
 use Rattle.protocol.specs.declared.command.Command.TheVariants.{ConfigurationDone, Threads, Cancel, SetBreakpoints, SetFunctionBreakpoints, SetInstructionBreakpoints, SetExceptionBreakpoints, Continue, Next, StepIn, StepOut, StepBack, ReverseContinue, StackTrace, Variables, SetVariable, ReadMemory, WriteMemory}
 use Rattle.replies.specs.declared.event.Event.TheVariants as event
-use Rattle.session.proofs.Orderly.{Orderly, OrderlyIn, OrderlyOf}
 use Rattle.handlers.specs.Breaks.{with_list, replaces}
 use Rattle.handlers.specs.Views.{view_of}
-use Rattle.handlers.specs.Demands.{goes_on as still_goes}
 use Rattle.handlers.specs.Disconnect.{departed, is_to_end, is_to_stand}
 use Rattle.handlers.specs.Initialize.{agreed}
 use Rattle.handlers.specs.Launch.{error_text, loads}
 use Rattle.protocol.specs.declared.refusal.Refusal.TheVariants.{AssemblyFailed, FileUnreadable}
-use Rattle.answers.specs.StackTrace.{frames_given}
-use Rattle.variables.specs.Numbers.{at_next_stop}
 use Rattle.headline.proofs.Agreeing.{Agrees, OwesOf, OwesRunning, marked_agrees, nothing_agrees}
 use Rattle.headline.proofs.Changing.{setting_so, writing_so}
 use Rattle.headline.proofs.Commands.{AnswerLeads, Comes, CommandsLead, CommandsOwe, OwesNothing, refusal_leads}
@@ -36,12 +30,10 @@ use Rattle.headline.proofs.Placing.{read_agrees}
 use Rattle.headline.proofs.Resuming.{alone, attach_leads, goes_on, initialize_agrees, launch_agrees, restarted_same, resumed_same, with_event}
 use Rattle.headline.proofs.Truth.{owes_nothing}
 use Rattle.headline.proofs.Valuing.{that_body, variables_agree}
-use Rattle.session.proofs.BySuccess.{BySuccess, by_success, SetsList, Looks, not_absent, has_program, agreed_body, step_body, agrees, steps}
 use Rattle.handlers.specs.Successes.{agreeing, resuming, changing}
 use Rattle.answers.specs.SetVariable.{set_variable}
 use Rattle.session.proofs.Breaking.{answer_on}
 use Rattle.handlers.specs.Looking.{seen_in}
-use Rattle.mirror.specs.Requests.{asked_of}
 use Rattle.protocol.specs.declared.set_variable.SetVariableArguments.{SetVariableArguments}
 use Rattle.protocol.specs.declared.write_memory.WriteMemoryArguments.{WriteMemoryArguments}
 use Rattle.answers.specs.WriteMemory.{write_memory}
@@ -132,7 +124,7 @@ module _ (now : Now) (terms : Terms) (f : Facts) (h : Agrees f now.debuggee.prog
       → Agrees g now.debuggee.program now.numbers terms
   with_same g p is a = subst (λ (program : Option Program). Agrees g program now.numbers terms) (sym is) a
 
--- what comes of a request that may come
+-- what a request that may come leads to
 abbrev LeadsTaken : Now → Terms → Facts → Command → Answering → Type 0
 LeadsTaken now terms f c a = Comes now terms c → AnswerLeads now f (Some (asked_of c)) a
 

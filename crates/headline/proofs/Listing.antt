@@ -1,8 +1,6 @@
 -- `setBreakpoints`, `setFunctionBreakpoints` and `setInstructionBreakpoints`: the breakpoints that their successes tell
 -- are those that are set.
-use Rattle.headline.proofs.Common.{Active, ap, Asked, Bool, bytes_eq, cond, Configuring, Err, Facts, false, Fresh, HoldsAt, HoldsRun, if_keeps, info_of, Initialized, is_debugging_in, is_running, Left, length, List, ltb, map, None, Numbers, Ok, Option, Phase, Program, refl, Refusal, ResponseBody, Result, Run, RunState, shown_of, slice_get, Some, state_of, subst, succeeded, sym, Terms, true, Wanted, with_functions, with_instructions, with_source, ℕ, ◌+◌, ◌∙◌, ◌∷◌, ◌≡◌}
-use Rattle.std.proofs.Common.{[]}
-use Rattle.std.specs.List.{cons_option, filter_map}
+use Rattle.headline.proofs.Common.{[], Active, ap, Asked, Bool, BreakInfo, bytes_eq, cond, Configuring, cons_option, Err, Facts, false, filter_map, Fresh, fresh, HoldsAt, HoldsRun, if_keeps, info_of, Initialized, is_debugging_in, is_running, Left, length, List, listed, ltb, map, None, Numbers, Ok, Option, Phase, Program, refl, Refusal, ResponseBody, Result, Run, RunState, shown_of, slice_get, Some, source_listed, state_of, subst, succeeded, sym, Terms, true, verified_at, verified_instruction, Wanted, with_functions, with_instructions, with_source, ℕ, ◌+◌, ◌∙◌, ◌∷◌, ◌≡◌}
 use Rattle.std.proofs.lemmas.Slice.Eq.{bytes_eq-Decides}
 use Rattle.answers.specs.Breakpoints.{Answer, entries_of, followed_by, list_of, next_after}
 use Rattle.answers.specs.SetBreakpoints as source
@@ -12,11 +10,8 @@ use Rattle.answers.specs.SetFunctionBreakpoints.{set_function_breakpoints}
 use Rattle.answers.specs.SetInstructionBreakpoints as instruction
 use Rattle.answers.specs.SetInstructionBreakpoints.{Place, set_instruction_breakpoints}
 use Rattle.answers.specs.declared.view.View.{View}
-use Rattle.breakpoints.specs.Stops.{fresh}
 use Rattle.image.specs.Lines.{Table}
-use Rattle.mirror.specs.Folding.{listed, source_listed, verified_at, verified_instruction}
 use Rattle.mirror.specs.declared.asked.Asked.TheVariants as asks
-use Rattle.facts.specs.declared.breakpoint.BreakInfo.{BreakInfo}
 use Rattle.protocol.specs.declared.set_breakpoints.SetBreakpointsArguments.{SetBreakpointsArguments}
 use Rattle.protocol.specs.declared.set_breakpoints.SourceBreakpoint.{SourceBreakpoint}
 use Rattle.protocol.specs.declared.set_function_breakpoints.SetFunctionBreakpointsArguments.{SetFunctionBreakpointsArguments}
@@ -81,7 +76,7 @@ placed_told judged next asked =
 
 -- ---- what is known then
 
--- facts of which the breakpoints alone are others
+-- facts that differ in the breakpoints alone
 record SameButBreaks (f g : Facts) : Type 0 where
   run : g.run ≡ f.run
   launched : g.launched ≡ f.launched

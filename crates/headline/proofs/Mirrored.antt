@@ -1,6 +1,5 @@
 -- What an editor's mirror holds was so.
-use Rattle.headline.proofs.Common.{All, All-cons, All-head, All-nil, All-tail, arith, Beginning, Happened, length, life_of, List, Reached, Said, subst, sym, ℕ, ◌∷◌, ◌≤◌}
-use Rattle.std.proofs.Common.{[]}
+use Rattle.headline.proofs.Common.{[], All, All-cons, All-head, All-nil, All-tail, arith, Beginning, Happened, length, life_of, List, Reached, Said, subst, sym, ℕ, ◌∷◌, ◌≤◌}
 use Rattle.replies.specs.Messages.{IsProper}
 use Rattle.session_laws.proofs.Proper.{answers_are_proper}
 use Rattle.headline.proofs.Editing.{facts_made, no_fault}

@@ -1,15 +1,13 @@
--- The messages that are queued from one time to another, and what there is to see at the end.
+-- The messages that are queued from one time to another, and what can be seen at the end.
 --
--- What there was to see when a message was queued is what there is to see then, with one exception: what the program
+-- What could be seen when a message was queued can still be seen at the end, with one exception: what the program
 -- printed, and what its logpoints say, was told while it ran, and it may have stopped since.
-use Rattle.headline.proofs.Common.{Act, All, All-cons, All-head, All-nil, All-push, All-tail, ap, Become, becomes, Bool, Debuggee, ended, exit_events, exits, false, Fits, halts, histories, if_keeps, is_active, is_running, IsFollowed, Life, Link, List, ltb, map, Message, None, Now, Numbers, on, Option, Pending, performed, performed_on, Program, refl, Run, Running, Said, said_next, said_on, says_output, Session, shown_of, sight_by, Snapshot, snapshot_of, Some, state_of, stop_event, stopped, subst, sym, Tell, tells, true, Why, ℕ, ℤ, ◌++◌, ◌∙◌, ◌∷◌, ◌≡◌}
-use Rattle.std.proofs.Common.{[], is_some, append-nil, append_assoc}
+use Rattle.headline.proofs.Common.{[], Act, All, All-cons, All-head, All-nil, All-push, All-tail, ap, append-nil, append_assoc, as_running, Become, becomes, Bool, Debuggee, ended, Event, exit_events, exits, false, Fits, halts, histories, if_keeps, is_active, is_running, IsFollowed, Life, Link, List, ltb, map, Message, Newly, None, Now, Numbers, on, Option, Pending, performed, performed_on, Program, refl, Run, Running, Said, said_next, said_on, says_output, seen_at, seen_now, Session, shown_of, sight, Sight, sight_by, Snapshot, snapshot_of, Some, state_of, stop_event, stopped, subst, sym, Tell, tells, true, Why, ℕ, ℤ, ◌++◌, ◌∙◌, ◌∷◌, ◌≡◌}
+use Rattle.std.proofs.Common.{is_some}
 use Rattle.debuggee.specs.declared.run.Run.TheVariants as a_run
-use Rattle.replies.specs.declared.event.Event.{Event}
 use Rattle.replies.specs.declared.event.Event.TheVariants as event
 use Rattle.replies.specs.declared.message.Message.TheVariants.{Event as IsEvent}
 use Rattle.headline.proofs.Outputs.{AreOutput, IsOutput}
-use Rattle.headline.specs.News.{Newly, Sight, as_running, seen_at, seen_now, sight}
 
 -- all that was queued is what the program printed, and what its logpoints say
 pub record Printed (s t : Session) : Type 0 where
@@ -40,7 +38,7 @@ nothing_newly s = record {
 
 -- ---- a message is queued
 
--- what there is to see now is what there was at such a message
+-- what can be seen now is what could be seen at such a message
 abbrev Sayable : Session → Message → Type 0
 Sayable t m = seen_now t ≡ seen_at (says_output m) (seen_now t)
 
@@ -131,7 +129,7 @@ seen_running : (p : Program) (numbers : Numbers) → is_running p.run ≡ true
 seen_running p numbers e =
     let is = running_state p.run e in λ i. record (sight_by (Some p) numbers) { facts = record (shown_of p numbers) { run = is i } }
 
--- of a program that runs there is to see what there was at each output
+-- while a program runs, what can be seen is what could be seen at each output
 output_sayable : (p : Program) (e : Event) (t : Session) → t.now.debuggee.program ≡ Some p → is_running p.run ≡ true → IsOutput e
     → Sayable t (IsEvent e)
 output_sayable p e t is runs output =

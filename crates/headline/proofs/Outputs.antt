@@ -1,8 +1,5 @@
 -- The events of output: what a program printed, and what its logpoints say.
-use Rattle.headline.proofs.Common.{List, map, None, Option, output_events, refl, says_output, Some, true, ℕ, ℤ, ⊤, ◌∷◌, ◌≡◌}
-use Rattle.std.proofs.Common.{[]}
-use Rattle.handlers.specs.Telling.{log_event}
-use Rattle.replies.specs.declared.event.Event.{Event}
+use Rattle.headline.proofs.Common.{[], Event, List, log_event, map, None, Option, output_events, refl, says_output, Some, true, ℕ, ℤ, ⊤, ◌∷◌, ◌≡◌}
 use Rattle.replies.specs.declared.message.Message.TheVariants.{Event as IsEvent}
 
 abbrev pub IsOutput : Event → Type 0

@@ -1,11 +1,7 @@
 -- A program that owes something runs: whatever is done to it.
-use Rattle.headline.proofs.Common.{Act, Beat, beat_by, beat_of, Become, Bool, by_move, concludes, cond, ended, exit_events, exits, false, FULL, goes, goes_unless, halts, if_keeps, is_active, is_at_limit, is_configuring, is_runnable_by, is_running, left, List, logged, ltb, map, Mark, marked, marked_by, moves_by, next_tick, None, not, Now, on_program, Option, output_events, Program, refl, Run, Seen, Some, stop_event, stopped, Tell, telling, Tick, told, true, Went, Why, why_marked, ℕ, ℤ, ⊤, ◌&&◌, ◌++◌, ◌∷◌, ◌≡◌}
-use Rattle.std.proofs.Common.{[]}
+use Rattle.headline.proofs.Common.{[], Act, Beat, beat_by, beat_of, Become, Bool, by_move, concludes, cond, ended, Ended as HasEnded, Event as Told, exit_events, exits, false, FULL, goes, goes_unless, halts, if_keeps, is_active, is_at_limit, is_configuring, is_runnable_by, is_running, left, List, logged, ltb, map, Mark, marked, marked_by, moves_by, next_tick, None, not, Now, on_program, Option, Outcome as CameTo, output_events, Program, refl, Run, Seen, Some, stop_event, stopped, Stopped as HasStopped, Tell, telling, Tick, told, true, Went, Why, why_marked, ℕ, ℤ, ⊤, ◌&&◌, ◌++◌, ◌∷◌, ◌≡◌}
 use Rattle.debuggee.specs.declared.run.Run.TheVariants as a_run
 use Rattle.debuggee.specs.declared.run.Why.TheVariants as why
-use Rattle.replies.specs.declared.event.Event.{Event as Told}
-use Rattle.stepping.specs.declared.tick.Outcome.{Outcome as CameTo}
-use Rattle.stepping.specs.declared.tick.Outcome.TheVariants.{Stopped as HasStopped, Ended as HasEnded}
 use Rattle.stepping.specs.declared.tick.Reason.TheVariants as met
 use Rattle.headline.proofs.Agreeing.{OwesOf, OwesRunning}
 

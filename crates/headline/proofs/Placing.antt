@@ -1,7 +1,5 @@
 -- What a list tells of places that follow each other; and `readMemory`.
-use Rattle.headline.proofs.Common.{arith, Bool, cond, Facts, false, if_keeps, is_active_in, is_running, leb, length, List, ltb, min, nat_tests, None, Numbers, Ok, Option, Program, refl, Refusal, ResponseBody, Result, slice_get, Some, subst, suc, succeeded, sym, Terms, true, zero, ℕ, ◌&&◌, ◌+◌, ◌<◌, ◌∙◌, ◌∷◌, ◌≡◌, ◌≤◌}
-use Rattle.std.proofs.Common.{◌-◌, [], take, drop, IsTrue}
-use Rattle.std.specs.Prelude.{◌^◌}
+use Rattle.headline.proofs.Common.{[], arith, Bool, cond, drop, Facts, false, if_keeps, is_active_in, is_running, IsTrue, leb, length, List, ltb, min, nat_tests, None, Numbers, Ok, Option, Program, refl, Refusal, ResponseBody, Result, slice_get, Some, subst, suc, succeeded, sym, take, Terms, true, zero, ℕ, ◌&&◌, ◌+◌, ◌-◌, ◌<◌, ◌^◌, ◌∙◌, ◌∷◌, ◌≡◌, ◌≤◌}
 use Rattle.answers.proofs.MemoryBytes.{begins_inside, byte_there}
 use Rattle.answers.specs.ReadMemory.{bytes_from, can_begin, read, start_at, start_by}
 use Rattle.numerals.specs.MemoryReferences.{offset_by}

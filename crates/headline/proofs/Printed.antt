@@ -1,34 +1,24 @@
 -- What is printed, and what a logpoint says, is told while the program runs: only what is owed is told so, and a program
 -- that owes something runs.
-use Rattle.headline.proofs.Common.{accepting, Act, All, All-nil, All-push, answer_to, Answering, answering, answers_next, Beat, beat, beat_by, beat_of, beats, Become, Beginning, Bool, by_move, closing, concludes, Connect, Debuggee, DropConnection, each_life, Effect, ended, enough, eqb, exit_events, exits, false, FULL, given_of, goes, goes_unless, halts, Happened, histories, Hold, hung_on, if_keeps, is_active, is_at_limit, is_runnable_by, is_running, LAST_CONNECTION, leb, length, Life, Link, List, logged, ltb, map, Mark, Message, MOST_PENDING, MOST_PIECE, moves_by, next_by, next_tick, next_turn, None, not, Now, of_answer, on, on_with, Option, outcome_at, output_events, Pending, performed, performed_append, performed_on, Program, Reached, reached, Recv, refl, response_to, Run, run_events, run_of, Said, said_debuggee, said_next, said_on, Seen, Session, Slice, SliceEnd, Some, stop_event, stopped, subst, suc, sym, Tell, telling, tells, Terms, Tick, told, true, Turn, turn_by, turn_of, Went, Why, why_marked, with_change, zero, ℕ, ℤ, ⊤, ◌++◌, ◌∙◌, ◌∷◌, ◌≡◌}
-use Rattle.std.proofs.Common.{[]}
+use Rattle.headline.proofs.Common.{[], accepting, Act, All, All-nil, All-push, answer_to, answering, Answering, answers_next, beat, Beat, beat_by, beat_of, beats, Become, Beginning, Bool, by_move, by_success, BySuccess, closing, concludes, Connect, Debuggee, DropConnection, each_life, Effect, ended, Ended as HasEnded, enough, eqb, Event as Told, exit_events, exits, false, FULL, given_of, goes, goes_unless, halts, Happened, histories, Hold, hung_on, if_keeps, is_active, is_at_limit, is_runnable_by, is_running, LAST_CONNECTION, leb, length, Life, Link, List, logged, ltb, map, Mark, Message, MOST_PENDING, MOST_PIECE, moves_by, next_by, next_tick, next_turn, None, not, Now, of_answer, on, on_with, Option, Outcome as CameTo, outcome_at, output_events, Pending, performed, performed_append, performed_on, Program, reached, Reached, Recv, refl, Response as IsResponse, response_to, Run, run_events, run_of, Said, said_debuggee, said_next, said_on, Seen, Sent, Session, Slice, SliceEnd, Some, stop_event, stopped, Stopped as HasStopped, subst, suc, sym, Tell, telling, tells, Terms, Tick, told, true, Turn, turn_by, turn_of, Went, Why, why_marked, with_change, zero, ℕ, ℤ, ⊤, ◌++◌, ◌∙◌, ◌∷◌, ◌≡◌}
 use Rattle.debuggee.specs.declared.run.Run.TheVariants as a_run
 use Rattle.debuggee.specs.declared.run.Why.TheVariants as why
-use Rattle.replies.specs.declared.event.Event.{Event as Told}
 use Rattle.replies.specs.declared.event.Event.TheVariants as event
-use Rattle.replies.specs.declared.message.Message.TheVariants.{Response as IsResponse, Event as IsEvent}
+use Rattle.replies.specs.declared.message.Message.TheVariants.{Event as IsEvent}
 use Rattle.session_laws.specs.Laws.{RunsAs}
 use Rattle.session.specs.Outcomes.{Outcome}
 use Rattle.session.specs.declared.event.Event.{Event}
-use Rattle.session.specs.declared.event.Event.TheVariants.{Sent}
-use Rattle.stepping.specs.declared.tick.Outcome.{Outcome as CameTo}
-use Rattle.stepping.specs.declared.tick.Outcome.TheVariants.{Stopped as HasStopped, Ended as HasEnded}
 use Rattle.stepping.specs.declared.tick.Reason.TheVariants as met
 use Rattle.headline.proofs.Agreeing.{OwesOf, OwesRunning, never}
 use Rattle.headline.proofs.Leaving.{commands_lead, commands_owe}
 use Rattle.headline.proofs.Truth.{Told as HasTold, beats_so, event_so, told_at_first}
 use Rattle.headline.specs.Printed.{PrintsRunning, WhatIsPrintedRuns}
-use Rattle.session.proofs.BySuccess.{BySuccess, by_success}
 
 -- ---- what an answer tells is nothing printed
 
 abbrev IsSilent : Told → Type 0
 IsSilent (event.Output output) = ⊥
-IsSilent (event.Stopped stop) = ⊤
-IsSilent event.Continued = ⊤
-IsSilent (event.Exited exit) = ⊤
-IsSilent event.Terminated = ⊤
-IsSilent event.Initialized = ⊤
+IsSilent _ = ⊤
 
 abbrev AllSilent : List Told → Type 0
 AllSilent [] = ⊤
@@ -75,11 +65,7 @@ answer_silent now terms file p = of_answer (λ ask (a : Answering). Silent a) no
 
 silent_prints : (e : Told) (d : Debuggee) → IsSilent e → PrintsRunning (IsEvent e) d
 silent_prints (event.Output output) d h = absurd h
-silent_prints (event.Stopped stop) d h = tt
-silent_prints event.Continued d h = tt
-silent_prints (event.Exited exit) d h = tt
-silent_prints event.Terminated d h = tt
-silent_prints event.Initialized d h = tt
+silent_prints _ d h = tt
 
 -- what they tell that was printed, they tell of a program that runs
 AllPrint : Debuggee → List Act → Type 0
@@ -103,11 +89,7 @@ Goes d = RunsAs (λ run. is_running run ≡ true) d
 -- whatever is told of a program that runs
 runs_print : (e : Told) (d : Debuggee) → Goes d → PrintsRunning (IsEvent e) d
 runs_print (event.Output output) d runs = runs
-runs_print (event.Stopped stop) d runs = tt
-runs_print event.Continued d runs = tt
-runs_print (event.Exited exit) d runs = tt
-runs_print event.Terminated d runs = tt
-runs_print event.Initialized d runs = tt
+runs_print _ d runs = tt
 
 all_run_print : (d : Debuggee) (events : List Told) (acts : List Act) → Goes d → AllPrint d acts → AllPrint d (map Tell events ++ acts)
 unfolding AllPrint
@@ -273,9 +255,6 @@ outcome_prints : (l : Option Link) (e : Event) (s : Session) → OwesOf s.now.de
 outcome_prints None Connect s owes h =
     if_keeps (λ (o : Outcome). Printed (performed histories o.acts (on None s))) (eqb s.now.connections LAST_CONNECTION) _ _ (λ _. h)
     (λ _. record { before = All-push AllSaid s.before s.life h.before h.present; present = All-nil IsSaid })
-outcome_prints None (Recv piece) s owes h = h
-outcome_prints None (Turn file) s owes h = h
-outcome_prints None (Slice n) s owes h = h
 outcome_prints None Hold s owes h = record { before = h.before; present = h.present }
 outcome_prints None (Sent n) s owes h = h
 outcome_prints None DropConnection s owes h = h
@@ -288,6 +267,7 @@ outcome_prints (Some l) (Sent n) s owes h =
     if_keeps (λ (o : Outcome). Printed (performed histories o.acts (on (Some l) s))) (ltb (length (on (Some l) s).waiting) n) _ _
     (λ _. h) (λ _. record { before = h.before; present = h.present })
 outcome_prints (Some l) DropConnection s owes h = record { before = h.before; present = h.present }
+outcome_prints None _ s owes h = h
 
 -- ---- with what is so of a session beside it
 

@@ -1,6 +1,6 @@
 -- The first bytes of messages that can be read: they have no fault, and the messages in them are those that lie wholly in them.
-use Rattle.headline.proofs.Common.{All, All-cons, All-head, All-nil, All-tail, ap, arith, cond, flat_map, frame_said, if_keeps, leb, length, List, map, Message, None, Ok, Option, refl, Said, Some, subst, sym, take-append-drop, told_within, ℕ, ◌++◌, ◌<◌, ◌∙◌, ◌∷◌, ◌≡◌, ◌≤◌}
-use Rattle.std.proofs.Common.{◌-◌, ◌^◌, [], take, drop}
+use Rattle.headline.proofs.Common.{[], All, All-cons, All-head, All-nil, All-tail, ap, arith, cond, drop, flat_map, frame_said, if_keeps, leb, length, List, map, Message, None, Ok, Option, refl, Said, Some, subst, sym, take, take-append-drop, told_within, ℕ, ◌++◌, ◌-◌, ◌<◌, ◌∙◌, ◌∷◌, ◌≡◌, ◌≤◌}
+use Rattle.std.proofs.Common.{◌^◌}
 use Rattle.framing.proofs.Minimal.{minimal_is_read}
 use Rattle.framing.specs.Frames.{minimal_frame}
 use Rattle.framing.specs.Reading.{reading_of, with_body}

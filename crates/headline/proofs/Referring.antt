@@ -1,22 +1,11 @@
 -- A success of a request that names a reference was queued by a turn, and the reference was good when the turn came.
-use Rattle.headline.proofs.Common.{Act, All, All-cons, All-head, All-nil, All-tail, AllKnown, answer_to, Answering, answering, answers_next, ap, arith, Ask, asks_of, beat, beats, Become, Beginning, Bool, closing, Connect, Done, DropConnection, Effect, enough, eqb, false, first_asked, FULL, Happened, histories, Hold, holding, hung_on, if_keeps, is_repeat, LAST_CONNECTION, leaving, leb, length, Life, life_of, Link, List, ltb, map, Message, MOST_PENDING, MOST_PIECE, next_by, next_turn, no_life, None, Now, number_of, of_answer, on, on_with, Option, outcome_at, Pending, performed, performed_on, Program, Reached, reached_by_events, read_on, Recv, refl, Refused, replied_on, response_to, ResponseBody, Said, said_next, saying, said_on, Seen, Session, Slice, SliceEnd, Some, start, subst, suc, sym, Tell, telling, Terms, Tick, true, Turn, turn_by, turn_of, with_change, zero, ℕ, ℤ, ⊤, ◌++◌, ◌∙◌, ◌∷◌, ◌≡◌}
-use Rattle.std.proofs.Common.{[], get_or, append-nil, append_assoc}
-use Rattle.std.specs.Prelude.{is_some, option_and_then}
-use Rattle.protocol.specs.declared.request.Request.{Request as ARequest}
-use Rattle.replies.specs.declared.event.Event.{Event as Told}
-use Rattle.replies.specs.declared.message.Message.TheVariants.{Response as IsResponse, Event as IsEvent}
+use Rattle.headline.proofs.Common.{[], Accept, accepted_on, Act, Agree, agreed_on, All, All-cons, All-head, All-nil, All-tail, AllKnown, answer_to, answering, Answering, answers_next, ap, append-nil, append_assoc, arith, Ask, asks_of, Bad, beat, beats, Become, Beginning, Bool, Cancelled, Close, closing, Connect, Cut, Done, DropConnection, Effect, enough, eqb, Event as Told, false, Fate, first_asked, FULL, get_or, HangUp, Happened, histories, Hold, holding, hung_on, if_keeps, is_repeat, is_some, LAST_CONNECTION, leaves, leaving, leb, led_append, length, Life, life_of, Link, List, ltb, map, Message, MOST_PENDING, MOST_PIECE, NamesNone, next_by, next_turn, no_life, None, Now, number_of, numbered, of_answer, on, on_with, Open, opened_on, Option, option_and_then, outcome_at, Pending, performed, performed_on, Program, Reached, reached_by_events, read_on, Recv, Refer, referred_on, refl, Refused, Repeated, replied_on, Reply, Request as ARequest, Response as IsResponse, response_to, ResponseBody, Said, said_next, said_on, saying, Seen, Sent, Session, Slice, SliceEnd, Some, start, subst, suc, sym, Take, Tell, telling, Terms, Tick, true, Turn, turn_by, turn_of, Waits, Whole, with_change, zero, ℕ, ℤ, ⊤, ◌++◌, ◌∙◌, ◌∷◌, ◌≡◌}
+use Rattle.replies.specs.declared.message.Message.TheVariants.{Event as IsEvent}
 use Rattle.replies.specs.declared.response.Outcome.{Outcome}
-use Rattle.session.proofs.Reaching.{led_append}
-use Rattle.session.specs.Acts.{Open, Close, Accept, Agree, Refer, Reply, HangUp, Take, numbered}
 use Rattle.session.specs.Outcomes.{Outcome as CameTo}
 use Rattle.session.specs.Prefixes.{IsPrefixOf}
-use Rattle.session.specs.Reached.{Whole, Cut, leaves}
-use Rattle.session.specs.Sessions.{accepted_on, agreed_on, opened_on, referred_on}
 use Rattle.session.specs.declared.event.Event.{Event}
-use Rattle.session.specs.declared.event.Event.TheVariants.{Sent}
-use Rattle.queues.specs.declared.pending.Ask.TheVariants.{Request, Bad}
-use Rattle.queues.specs.declared.pending.Fate.{Fate}
-use Rattle.queues.specs.declared.pending.Fate.TheVariants.{Waits, Repeated, Cancelled, NamesNone}
+use Rattle.queues.specs.declared.pending.Ask.TheVariants.{Request}
 use Rattle.session_laws.proofs.Lasting.{references_last}
 use Rattle.session_laws.proofs.Waiting.{all_counted}
 use Rattle.session_laws.specs.Lifetimes.{outcome_next, reference_in}
@@ -84,7 +73,6 @@ module _ (G : List Said → Said → ℤ → Type 0) (heard : List Ask) where
       subst (λ (l : List Said). IsSo heard m.message (G l m)) (append_assoc earlier (x ∷ []) before)
       (so_at (earlier ++ x ∷ []) before later m h.1)
 
--- an event
 abbrev TellsEvent : Message → Type 0
 TellsEvent (IsResponse r) = ⊥
 TellsEvent (IsEvent e) = ⊤
@@ -182,15 +170,11 @@ hung_grows (Some l) s = stays s (hung_on (Some l) s) refl refl refl
 -- what neither makes a connection nor answers a request
 abbrev answers_nothing : Act → Bool
 answers_nothing Open = false
-answers_nothing Close = true
-answers_nothing (Accept piece) = true
-answers_nothing (Agree terms) = true
-answers_nothing (Become debuggee) = true
-answers_nothing (Refer call) = true
 answers_nothing (Reply outcome) = false
 answers_nothing (Tell event) = true
 answers_nothing HangUp = true
 answers_nothing (Take n) = true
+answers_nothing _ = true
 
 act_grows : (act : Act) (s : Session) → answers_nothing act ≡ true → Grows s (performed_on act s)
 act_grows Open s h = absurd (let no : false ≡ true = h in cc)
@@ -361,7 +345,7 @@ module _ (G : ℕ → List Said → Said → ℤ → Type 0) where
   turn_pending l file [] s ready h = h
   turn_pending l file (p ∷ rest) s ready h = answering_so l rest file s p ready h
 
-  -- what comes to this leaves lives of which it is so, too
+  -- what a turn comes to leaves lives that are so, too
   abbrev Comes : Session → Option (List ℕ) → CameTo → Type 0
   Comes s file o = Ready s file (performed histories o.acts s) → LivesSo (performed histories o.acts s)
 

@@ -1,10 +1,6 @@
 -- What is known stays, whatever is asked later.
-use Rattle.headline.proofs.Common.{All, All-head, All-tail, answered, ap, Ask, Asked, Done, Facts, first_asked, folded, Holds, IsKnownBy, IsKnownIn, known_after, List, Message, None, Option, refl, Refused, remembered, Said, shown, Some, subst, sym, ℕ, ◌++◌, ◌∙◌, ◌∷◌, ◌≡◌}
-use Rattle.std.proofs.Common.{[]}
-use Rattle.std.specs.Prelude.{option_map}
-use Rattle.mirror.specs.Requests.{asked_of}
-use Rattle.protocol.specs.declared.request.Request.{Request as ARequest}
-use Rattle.replies.specs.declared.message.Message.TheVariants.{Response as IsResponse, Event as IsEvent}
+use Rattle.headline.proofs.Common.{[], All, All-head, All-tail, answered, ap, Ask, Asked, asked_of, Done, Facts, first_asked, folded, Holds, IsKnownBy, IsKnownIn, known_after, List, Message, None, Option, option_map, refl, Refused, remembered, Request as ARequest, Response as IsResponse, Said, shown, Some, subst, sym, ℕ, ◌++◌, ◌∙◌, ◌∷◌, ◌≡◌}
+use Rattle.replies.specs.declared.message.Message.TheVariants.{Event as IsEvent}
 use Rattle.replies.specs.declared.response.Outcome.{Outcome}
 use Rattle.headline.proofs.Cutting.{AllHold}
 use Rattle.headline.proofs.Knowing.{first_more}

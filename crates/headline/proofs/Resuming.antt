@@ -1,10 +1,6 @@
--- Requests that let the program go on, end it, or join it: what their successes tell is so.
-use Rattle.headline.proofs.Common.{Active, ap, Bool, Configuring, Facts, false, first_run, Fresh, happened, has_none, Holds, in_state, info_of, Initialized, is_active_in, Left, List, listed_at, map, None, nothing_known, Now, Numbers, on_program, Option, Phase, Placed, Program, refl, restarted, resumed, run_of, Running, shown_by, shown_of, Some, state_of, subst, sym, Tell, Terms, true, ◌∷◌, ◌≡◌}
-use Rattle.std.proofs.Common.{[]}
-use Rattle.breakpoints.specs.Stops.{reset}
+-- Requests that let the program continue, end it, or join it: what their successes tell is so.
+use Rattle.headline.proofs.Common.{[], Active, ap, Bool, BreakInfo, Configuring, Facts, false, first_run, Fresh, happened, has_none, Holds, in_state, info_of, Initialized, is_active_in, is_fresh_in, is_initialized_in, Left, List, listed_at, map, None, nothing_known, Now, Numbers, on_program, Option, Phase, Placed, Program, refl, reset, restarted, resumed, run_of, Running, shown_by, shown_of, Some, state_of, subst, sym, Tell, Terms, true, ◌∷◌, ◌≡◌}
 use Rattle.debuggee.specs.declared.run.Run.TheVariants as a_run
-use Rattle.facts.specs.declared.breakpoint.BreakInfo.{BreakInfo}
-use Rattle.handlers.specs.Phases.{is_fresh_in, is_initialized_in}
 use Rattle.headline.proofs.Agreeing.{Agrees, KnowsNoStand, MovesUnknown, SuitsPhase, holds_in, no_stand_in, none_numbered, nothing_holds}
 use Rattle.headline.proofs.Leading.{Leads, SameBut, suits_as}
 
@@ -18,7 +14,7 @@ alone f program numbers terms h = (h.holds, h)
 pub no_program : {A : Type 0} → true ≡ false → A
 no_program e = absurd (let no : true ≡ false = e in cc)
 
--- ---- the program goes on
+-- ---- the program continues
 
 pub goes_on : (now : Now) (terms : Terms) (f : Facts) (numbers : Numbers) (makes : Program → Program) → is_active_in terms.phase ≡ true
     → ((p : Program) → (makes p).run ≡ a_run.Running) → ((p : Program) → SameBut p (makes p))

@@ -1,13 +1,10 @@
--- There is to see at the end of an event what there was at each message that it queued.
-use Rattle.headline.proofs.Common.{ap, Beginning, Effect, enough, Happened, histories, List, program_of, Reached, reached, Session, Slice, SliceEnd, Some, sym, ℕ, ◌∙◌}
-use Rattle.session_laws.proofs.Joined.{at_end, histories_follow}
-use Rattle.session.specs.Effects.{ended_as}
+-- What can be seen at the end of an event is what could be seen at each message that it queued.
+use Rattle.headline.proofs.Common.{ap, at_end, Beginning, Effect, ended_as, enough, Happened, histories, histories_follow, IsAtRest, IsSeenAfter, List, program_of, reached, Reached, Session, Slice, SliceEnd, Some, Spends, sym, ℕ, ◌∙◌}
 use Rattle.headline.proofs.Agreeing.{OwesOf}
 use Rattle.headline.proofs.Leaving.{commands_lead, commands_owe}
 use Rattle.headline.proofs.Slicing.{none_told, one_told}
 use Rattle.headline.proofs.Truth.{Told, beats_so, event_so, told_at_first}
 use Rattle.headline.proofs.Turned.{turn_told}
-use Rattle.headline.specs.News.{IsAtRest, IsSeenAfter, Spends}
 use Rattle.session.proofs.Enough.{each_ends}
 
 owes : (from : Beginning) (events : List Happened) → OwesOf (program_of (Reached from events))

@@ -1,21 +1,15 @@
 -- Requests that look in: what their successes tell is so, and numbers that are issued leave what is known.
-use Rattle.headline.proofs.Common.{ap, Asked, Bool, cond, Facts, false, frame_at, frame_in, given_of, has, HoldsAt, if_keeps, List, None, not, Now, number_from, number_in, Numbers, Option, Program, refl, ResponseBody, shown_of, slice_get, Some, subst, succeeded, sym, Target, Terms, true, with_all, with_one, with_targets, ℕ, ◌++◌, ◌+◌, ◌||◌, ◌∙◌, ◌∷◌, ◌≡◌}
-use Rattle.std.proofs.Common.{[]}
+use Rattle.headline.proofs.Common.{[], addresses, ap, Asked, Bool, Command, cond, Facts, false, Frame, frame_at, frame_in, FrameInfo, given_of, has, HoldsAt, if_keeps, List, None, not, Now, number_from, number_in, Numbers, Option, or_zero, Program, refl, ResponseBody, shown_of, slice_get, Some, subst, succeeded, sym, Target, Terms, true, with_all, with_one, with_targets, ℕ, ◌++◌, ◌+◌, ◌||◌, ◌∙◌, ◌∷◌, ◌≡◌}
 use Rattle.std.specs.Prelude.{IsTrue}
 use Rattle.answers.specs.Looking.{looks_in}
-use Rattle.answers.specs.StackTrace.{addresses}
 use Rattle.image.specs.Lines.{Table}
 use Rattle.mirror.specs.declared.asked.Asked.TheVariants as asks
-use Rattle.facts.specs.declared.frame.FrameInfo.{FrameInfo}
-use Rattle.protocol.specs.declared.command.Command.{Command}
 use Rattle.replies.specs.declared.response.ResponseBody.TheVariants as body
 use Rattle.handlers.specs.Looking.{issues, seen_in}
 use Rattle.variables.specs.References.{is_same}
-use Rattle.variables.specs.declared.target.Target.TheVariants.{Frame}
 use Rattle.headline.proofs.Agreeing.{Agrees, FramesNumbered, never}
 use Rattle.headline.proofs.Commands.{AnswerLeads}
 use Rattle.headline.proofs.Resuming.{alone}
-use Rattle.snapshots.specs.Shown.{or_zero}
 
 -- ---- numbers that were issued stay
 
@@ -87,7 +81,7 @@ other_tells : (b : ResponseBody) (f : Facts) → succeeded b asks.Other f ≡ f
 other_tells body.Empty f = refl
 other_tells others f = refl
 
--- what a body tells is so by the numbers that there are then
+-- what a body tells is so by the numbers that then exist
 abbrev pub Tells : Asked → Facts → Program → Numbers → Terms → ResponseBody → List Target → Type 0
 Tells asked f p numbers terms b targets = Agrees (succeeded b asked f) (Some p) (with_targets numbers targets) terms
 

@@ -1,8 +1,6 @@
--- What a slice queues that makes no move, or one move from where nothing is owed: there is to see at its end what there was to see at each message.
-use Rattle.headline.proofs.Common.{Act, after_beat, ap, arith, Beat, beat, beat_by, beat_of, beats, Become, Bool, Debuggee, ends, enough, false, FULL, goes_unless, histories, if_keeps, is_runnable_by, IsFollowed, List, ltb, Mark, next_by, None, not, Option, performed, performed_on, Program, program_of, refl, said_debuggee, Seen, Session, SliceEnd, Some, subst, suc, sym, Tell, Tick, true, zero, ℕ, ◌+◌, ◌∙◌, ◌∷◌, ◌≡◌}
-use Rattle.std.proofs.Common.{[]}
+-- What a slice of no move queues, or of one move where nothing is owed: what can be seen at its end could be seen at each message.
+use Rattle.headline.proofs.Common.{[], Act, after_beat, ap, arith, beat, Beat, beat_by, beat_of, beats, Become, Bool, Debuggee, ends, enough, false, from_here, FULL, goes_unless, histories, if_keeps, is_runnable_by, IsFollowed, List, ltb, Mark, next_by, None, not, Option, performed, performed_on, Program, program_of, refl, said_debuggee, Seen, Session, sliced, SliceEnd, Slicing, Some, subst, suc, sym, Tell, Tick, true, zero, ℕ, ◌+◌, ◌∙◌, ◌∷◌, ◌≡◌}
 use Rattle.replies.specs.declared.message.Message.TheVariants.{Event as IsEvent}
-use Rattle.session.specs.Effects.{Slicing, from_here, sliced}
 use Rattle.session.specs.declared.event.SliceEnd.TheVariants as ending
 use Rattle.headline.proofs.Agreeing.{OwesOf}
 use Rattle.headline.proofs.Following.{first_begins, still_follows}

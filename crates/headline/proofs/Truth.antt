@@ -1,19 +1,11 @@
 -- What an editor knows was so, whatever happens: if it is so of each command.
-use Rattle.headline.proofs.Common.{accepting, All-head, All-nil, All-push, AllKnown, answer_to, Answering, answers_next, Ask, Asked, asks_of, beat, beats, Beginning, Bool, BoundsIn, Connect, DropConnection, each_life, Effect, enough, eqb, Facts, FULL, given_of, Happened, histories, Hold, holding, if_keeps, LAST_CONNECTION, leaving, leb, left, length, life_of, Link, List, ltb, marked, MOST_PENDING, MOST_PIECE, next_by, next_turn, None, nothing_known, Now, number_of, of_answer, on, on_program, on_with, Option, outcome_at, Pending, performed, Program, Reached, reached, read_on, Recv, refl, remembered, Session, Slice, SliceEnd, Some, start, subst, suc, sym, telling, Terms, Tick, true, Turn, turn_by, turn_of, zero, ℕ, ◌∙◌, ◌∷◌, ◌≡◌}
-use Rattle.std.proofs.Common.{[]}
-use Rattle.debuggee.specs.Programs.{with_program}
+use Rattle.headline.proofs.Common.{[], accepting, All-head, All-nil, All-push, AllKnown, answer_to, Answering, answers_next, Ask, Asked, asks_of, beat, beat_keeps, beats, Beginning, begins_so, Bool, Both, BoundsIn, Cancelled, Connect, DropConnection, each_life, Effect, enough, eqb, Facts, Fate, first_terms, FULL, given_of, Happened, histories, Hold, holding, if_keeps, LAST_CONNECTION, leaving, leb, left, length, life_of, Link, List, ltb, marked, MOST_PENDING, MOST_PIECE, NamesNone, next_by, next_turn, None, nothing_known, Now, number_of, of_answer, on, on_program, on_with, Option, OrderlyIn, outcome_at, outcome_keeps, Pending, performed, Program, reached, Reached, read_on, Recv, refl, remembered, Repeated, Sent, Session, Slice, SliceEnd, Some, start, subst, suc, sym, telling, Terms, Tick, true, Turn, turn_by, turn_of, Waits, WhatIsKnownWasSo, with_program, zero, ℕ, ◌∙◌, ◌∷◌, ◌≡◌}
 use Rattle.debuggee.specs.declared.run.Mark.TheVariants as mark
 use Rattle.session_laws.proofs.Asked.{IsRead}
-use Rattle.session.proofs.Orderly.{OrderlyIn}
-use Rattle.session_laws.proofs.Turning.{Both, beat_keeps, begins_so, outcome_keeps}
 use Rattle.session.specs.Config.{first_program}
 use Rattle.session.specs.Outcomes.{Outcome}
-use Rattle.handlers.specs.Phases.{first_terms}
 use Rattle.handlers.specs.Requests.{success_of}
 use Rattle.session.specs.declared.event.Event.{Event}
-use Rattle.session.specs.declared.event.Event.TheVariants.{Sent}
-use Rattle.queues.specs.declared.pending.Fate.{Fate}
-use Rattle.queues.specs.declared.pending.Fate.TheVariants.{Waits, Repeated, Cancelled, NamesNone}
 use Rattle.headline.proofs.Agreeing.{Agrees, OwesOf, OwesRunning, marked_agrees, never, nothing_agrees}
 use Rattle.headline.proofs.Beating.{program_leads}
 use Rattle.headline.proofs.Commands.{AnswerLeads, CommandsLead, CommandsOwe, OwesNothing, refusal_leads}
@@ -23,7 +15,6 @@ use Rattle.headline.proofs.Knowing.{IsFirst, Knows, WaitsFirst, knows, none_said
 use Rattle.headline.proofs.Leading.{Leads, telling_leads}
 use Rattle.headline.proofs.Owing.{beat_owes, left_owes, marked_owes, owes_after, telling_owes}
 use Rattle.headline.proofs.Remembering.{all_hold_same, known_same, remembers}
-use Rattle.headline.specs.Concluding.{WhatIsKnownWasSo}
 
 -- ---- what leaves a session faithful that tells nothing
 

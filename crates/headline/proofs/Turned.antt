@@ -1,17 +1,13 @@
--- What a turn queues: there is to see at its end what there was to see at each message.
-use Rattle.headline.proofs.Common.{All, All-cons, All-nil, answer_to, Answering, answering, answers_next, Bool, closing, Effect, false, Fits, FULL, given_of, histories, hung_on, if_keeps, IsFollowed, Link, List, ltb, map, Message, next_turn, None, Now, of_answer, on, on_with, Option, outcome_at, Pending, performed, performed_append, Program, program_of, refl, replied_on, response_to, Run, run_events, run_of, Session, Some, stop_event, subst, sym, Terms, Tick, true, Turn, turn_by, turn_of, with_change, ℕ, ◌∙◌, ◌∷◌, ◌≡◌}
-use Rattle.std.proofs.Common.{[]}
+-- What a turn queues: what can be seen at its end is what could be seen at each message.
+use Rattle.headline.proofs.Common.{[], All, All-cons, All-nil, answer_to, answering, Answering, answers_next, Bool, by_success, BySuccess, closing, done, Effect, Event as Told, false, Fits, FULL, given_of, histories, hung_on, if_keeps, IsFollowed, Link, List, ltb, map, Message, next_turn, None, Now, of_answer, on, on_with, Option, outcome_at, Pending, performed, performed_append, Program, program_of, refl, replied_on, Response as IsResponse, response_to, Run, run_events, run_of, Session, Some, stop_event, subst, sym, Terms, Tick, true, Turn, turn_by, turn_of, with_change, ℕ, ◌∙◌, ◌∷◌, ◌≡◌}
 use Rattle.debuggee.specs.declared.run.Run.TheVariants as a_run
-use Rattle.replies.specs.declared.event.Event.{Event as Told}
 use Rattle.replies.specs.declared.event.Event.TheVariants as event
-use Rattle.replies.specs.declared.message.Message.TheVariants.{Response as IsResponse}
-use Rattle.session.specs.Outcomes.{Outcome, done}
+use Rattle.session.specs.Outcomes.{Outcome}
 use Rattle.session.specs.declared.event.Applied.TheVariants.{Turn as DidTurn}
 use Rattle.session.specs.declared.event.Turned.TheVariants.{Full}
 use Rattle.headline.proofs.Agreeing.{OwesOf, OwesRunning, never}
 use Rattle.headline.proofs.Following.{tells_follow}
 use Rattle.headline.proofs.Newly.{Plain, just_told, nothing_newly, plain_told, said_told, same_life}
-use Rattle.session.proofs.BySuccess.{BySuccess, by_success}
 
 -- ---- no answer tells what was printed
 

@@ -1,17 +1,14 @@
 -- `variables`: the registers that its success tells have these values.
-use Rattle.headline.proofs.Common.{All, All-cons, All-head, All-nil, All-push, All-tail, ap, arith, Bool, codes, cond, eqb, Err, Facts, false, HoldsAt, is_active_in, is_running, List, ltb, map, nat_tests, None, Numbers, Ok, Option, Program, refl, Refusal, register_at, register_of, ResponseBody, Result, slice_index, Some, subst, suc, sym, Target, Terms, true, valued, zero, ℕ, ◌&&◌, ◌++◌, ◌∙◌, ◌∷◌, ◌≡◌}
-use Rattle.std.proofs.Common.{[]}
+use Rattle.headline.proofs.Common.{[], after_variable, after_variables, All, All-cons, All-head, All-nil, All-push, All-tail, ap, arith, Bool, codes, cond, eqb, Err, Facts, false, Hart, HoldsAt, is_active_in, is_running, List, ltb, map, nat_tests, None, Numbers, Ok, Option, Program, refl, Refusal, register_at, register_of, ResponseBody, Result, slice_index, Some, subst, suc, sym, Target, Terms, true, valued, zero, ℕ, ◌&&◌, ◌++◌, ◌∙◌, ◌∷◌, ◌≡◌}
 use Rattle.std.specs.Prelude.{drop, take}
 use Rattle.answers.specs.Parts.{at_most}
 use Rattle.answers.specs.Variables.{asked_of, body_by, of_kind, variables_in}
-use Rattle.mirror.specs.Folding.{after_variable, after_variables}
 use Rattle.mirror.specs.declared.asked.Asked.TheVariants as asks
 use Rattle.protocol.specs.declared.filter.Filter.{Filter}
 use Rattle.protocol.specs.declared.filter.Filter.TheVariants.{Indexed, Named}
 use Rattle.protocol.specs.declared.variables.VariablesArguments.{VariablesArguments}
 use Rattle.message_parts.specs.declared.variables.Variable.{Variable}
 use Rattle.rv32i.specs.Names.{name_of, number_named}
-use Rattle.rv32i.specs.declared.hart.Hart.{Hart}
 use Rattle.variables.specs.Registers.{counter, numbers as register_numbers, register, registers}
 use Rattle.variables.specs.Stack.{stack_words, word}
 use Rattle.variables.specs.declared.target.Target.TheVariants as target

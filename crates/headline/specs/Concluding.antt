@@ -18,7 +18,7 @@ use Rattle.headline.specs.Known.{first_asked}
 abbrev pub remembered : List Ask → ℕ → Option Asked
 remembered asks number = option_map (λ r. asked_of r.command) (first_asked asks number)
 
--- the messages that were told with the first bytes of a connection, so many of them
+-- the messages that were told with the first bytes of a connection, this many of them
 abbrev pub told_within : ℕ → List Said → List Said
 told_within count [] = []
 told_within count (m ∷ said) = if nat_le (length (frame_said m)) count
@@ -29,7 +29,7 @@ abbrev pub known_after : (ℕ → Option Asked) → Facts → List Said → Fact
 known_after asked facts [] = facts
 known_after asked facts (m ∷ said) = known_after asked (folded asked facts m.message) said
 
--- what there was to see when the last message of a list was queued, or before it, where there is none
+-- what could be seen when the last message of a list was queued, or before it, where there is none
 abbrev pub last_seen : Option Snapshot → List Said → Option Snapshot
 last_seen before [] = before
 last_seen before (m ∷ said) = last_seen (Some m.snapshot) said

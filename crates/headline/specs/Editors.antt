@@ -59,7 +59,7 @@ requests_in [] = []
 requests_in (Request r ∷ asks) = r ∷ requests_in asks
 requests_in (Bad seq command refusal ∷ asks) = requests_in asks
 
--- it told all requests of the connection, and then fed its first bytes, so many of them
+-- it told all requests of the connection, and then fed its first bytes, this many of them
 abbrev pub told_first : Life → ℕ → List Input
 told_first life count = map Sent (requests_in life.heard) ++ Fed (take count (bytes_of life)) ∷ []
 

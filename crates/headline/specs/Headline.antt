@@ -3,7 +3,7 @@
 -- An editor's mirror was told requests and fed bytes of a connection, in turn, and the bytes are any prefix of it. It has
 -- found no fault then, and what it knows is what the whole messages in that prefix tell, however the requests and the bytes
 -- came in turn; and that was so when the last of these messages was queued. The same holds of each `mirror::Mirror` that
--- stands for these inputs.
+-- represents these inputs.
 use Rattle.std.specs.Prelude.{◌≡◌, ℕ, List, length, None}
 use Rattle.facts.specs.Facts.{Facts, nothing_known}
 use Rattle.mirror.specs.Kept.{Kept, facts_of}
@@ -12,7 +12,7 @@ use Rattle.session.specs.Sessions.{Life, Session, life_of}
 use Rattle.headline.specs.Concluding.{WasSo, known_after, last_seen, remembered, told_within}
 use Rattle.headline.specs.Editors.{IsEditor, fed_in}
 
--- what is known after the whole messages in the first bytes of a connection, so many of them
+-- what is known after the whole messages in the first bytes of a connection, this many of them
 abbrev pub known_within : ℕ → Life → Facts
 known_within count life = known_after (remembered life.heard) nothing_known (told_within count life.said)
 

@@ -14,8 +14,8 @@ pub mod Headline
 pub mod References
 -- when it is told what the program printed, and what its logpoints say
 pub mod Printed
--- what an event queues, and what there is to see once it is done
+-- what an event queues, and what can be seen once it is done
 pub mod News
 -- ---- of the crates below
--- what there is to see of a program
+-- what can be seen of a program
 pub use Rattle.snapshots.specs.Shown

@@ -1,8 +1,8 @@
--- What an event queues, and what there is to see once it is done.
+-- What an event queues, and what can be seen once it is done.
 --
--- A message comes with what there was to see when it was queued. Whoever replays a session event by event sees it between
+-- A message comes with what could be seen when it was queued. Whoever replays a session event by event sees it between
 -- events only. That is enough: after a turn, and after a slice that makes no move, or one move where nothing is left to
--- be told before it, there is to see what there was at each message that it queued. There is one exception: output,
+-- be told before it, what can be seen is what could be seen at each message that it queued. There is one exception: output,
 -- which is what the program printed and what its logpoints say, is told while it runs, and it may have stopped since.
 use Rattle.std.specs.Prelude.{◌≡◌, ℕ, Bool, true, false, List, [], ◌++◌, All, is_some, Option, option_map}
 use Rattle.debuggee.specs.Programs.{Program}
@@ -19,7 +19,7 @@ use Rattle.session.specs.declared.event.SliceEnd.TheVariants as ending
 use Rattle.session.specs.declared.event.Event.TheVariants.{Slice, Turn}
 use Rattle.variables.specs.Numbers.{Numbers}
 
--- what there is to see of a program, as facts, and the path of its file, if there is a program
+-- what can be seen of a program, as facts, and the path of its file, if there is a program
 pub record Sight : Type 0 where
   pub facts : Facts
   pub path : Option (List ℕ)
@@ -30,7 +30,7 @@ sight_by program numbers = record { facts = shown_by program numbers; path = opt
 abbrev pub sight : Snapshot → Sight
 sight seen = sight_by seen.debuggee.program seen.numbers
 
--- what there is to see now
+-- what can be seen now
 abbrev pub seen_now : Session → Sight
 seen_now s = sight (snapshot_of s.now)
 
@@ -48,12 +48,12 @@ says_output (IsEvent event.Continued) = false
 says_output (IsEvent (event.Exited b)) = false
 says_output (IsEvent event.Terminated) = false
 
--- what there was to see at such a message, by what there is to see now
+-- what could be seen at such a message, by what can be seen now
 abbrev pub seen_at : Bool → Sight → Sight
 seen_at true s = as_running s
 seen_at false s = s
 
--- there was to see what there is now
+-- what could be seen is what can be seen now
 abbrev pub Fits : Session → Said → Type 0
 Fits t m = sight m.snapshot ≡ seen_at (says_output m.message) (seen_now t)
 
@@ -75,11 +75,11 @@ pub record IsFollowed (s t : Session) : Type 0 where
 abbrev pub IsAtRest : Session → Type 0
 IsAtRest s = beat (histories.see s) false ≡ ends ending.Spent
 
--- a slice of so many moves ends because they were made
+-- a slice of this many moves ends because they were made
 abbrev pub Spends : ℕ → Session → Type 0
 Spends n s = ended_as (sliced histories n s).ending ≡ ending.Spent
 
--- There is to see at the end of an event what there was at each message that it queued.
+-- What can be seen at the end of an event is what could be seen at each message that it queued.
 pub record IsSeenAfter (s : Session) : Type 0 where
   pub turn : (file : Option (List ℕ)) → IsFollowed s (Effect s (Turn file))
   pub none : IsFollowed s (Effect s (Slice 0))

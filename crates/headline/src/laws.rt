@@ -37,8 +37,8 @@ pub fn what_is_printed_runs()
     ensures { (from : ABeginning) (happened : List Happened) → WhatIsPrintedRuns (Reached from happened) }
 {}
 
-/// Whatever happened, after a turn, and after a slice that makes no move, or one where nothing is left to be told before it, there is to see
-/// what there was at each message that it queued; of what the program printed or a logpoint says, while the program ran.
+/// Whatever happened, after a turn, and after a slice that makes no move, or one where nothing is left to be told before it, what can be
+/// seen is what could be seen at each message that it queued; at what the program printed or a logpoint says, while the program ran.
 pub fn what_was_seen_is_seen_after()
     ensures { (from : ABeginning) (happened : List Happened) → IsSeenAfter (Reached from happened) }
 {}

@@ -1,11 +1,9 @@
 -- Back, and forth again.
-use Rattle.history_laws.proofs.Common.{[], ap, arith, back, back_of, Beginning, Course, course_of, Debugged, EndsARun, false, gone_back, Happened, IfSome, Instr, LeadTo, length, List, move_of, moved, moved_as, Moves, MovesTo, next_tick, None, Ok, one_move, Option, Position, position_of, Program, Reached, refl, Session, settled, Some, stays, Stepped, subst, suc, sym, take, the_tick, Tick, tick_of, true, zero, ℕ, ◌∙◌, ◌∷◌, ◌≡◌, ◌≤◌}
+use Rattle.history_laws.proofs.Common.{[], ap, arith, back, back_of, BackAndForthAgain, Beginning, Course, course_of, Debugged, EndsARun, false, gone_back, Happened, IfSome, Instr, IsMade, IsReachedAgain, IsUndone, LeadTo, length, List, MakesSaying, move_of, moved, moved_as, Moves, moves_equal, MovesAreMade, MovesAreUndone, MovesSaying, MovesTo, next_tick, None, Ok, one_move, Option, Position, position_of, printed_by, Program, Reached, refl, Session, settled, Some, stays, Stepped, subst, suc, sym, take, the_tick, Tick, tick_of, ticks_lead, true, zero, ℕ, ◌∙◌, ◌∷◌, ◌≡◌, ◌≤◌}
 use Rattle.history_laws.proofs.Recorded.{every_past_is_a_run}
 use Rattle.history_laws.proofs.Ticking.{back_course}
-use Rattle.history_laws.specs.Again.{BackAndForthAgain, IsMade, IsReachedAgain, IsUndone, MakesSaying, MovesAreMade, MovesAreUndone, MovesSaying, printed_by}
 use Rattle.rv32i.specs.Machine.{Effect, machine_of}
 use Rattle.rv32i.specs.declared.stepped.Stepped.TheVariants as stepped
-use Rattle.stepping.proofs.Leading.{moves_equal, ticks_lead}
 
 -- ---- one answer
 
@@ -76,12 +74,8 @@ back_and_forth_again from events =
 
 printed_so : (s : Stepped) (instr : Option Instr) (pc : ℕ) (d : Debugged) → printed_by s ≡ (tick_of s instr pc d).printed
 printed_so stepped.Retired instr pc d = refl
-printed_so (stepped.Printed number) instr pc d = refl
-printed_so stepped.Break instr pc d = refl
-printed_so (stepped.Exit code) instr pc d = refl
-printed_so (stepped.Trap cause) instr pc d = refl
+printed_so _ instr pc d = refl
 
--- it is recorded
 pub recorded_so : (s : Stepped) (instr : Option Instr) (before after : Debugged)
     → stays (tick_of s instr before.hart.pc (moved_as before after)).outcome ≡ false
     → after ≡ settled s instr before (moved_as before after) → after.past ≡ take 65536 (position_of before ∷ before.past)

@@ -1,6 +1,5 @@
 -- What two kinds of programs do in a beat: one that goes back is at no limit, and one that stands still does nothing.
-use Rattle.history_laws.proofs.Common.{ap, Beat, beat_by, Bool, ends, false, Goal, if_keeps, is_at_limit, is_runnable_by, is_running, None, Now, Option, Program, Seen, subst, sym, Tick, true, turns_back, ◌∙◌, ◌≡◌}
-use Rattle.std.specs.Prelude.{◌&&◌, not, nat_le}
+use Rattle.history_laws.proofs.Common.{ap, Beat, beat_by, Bool, ends, false, Goal, if_keeps, is_at_limit, is_runnable_by, is_running, nat_le, None, not, Now, Option, Program, Seen, subst, sym, Tick, true, turns_back, ◌&&◌, ◌∙◌, ◌≡◌}
 use Rattle.session_laws.proofs.Stopping.{no_more}
 use Rattle.session.specs.declared.event.SliceEnd.TheVariants as ending
 

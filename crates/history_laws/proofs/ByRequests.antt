@@ -1,27 +1,19 @@
 -- Back and forth by requests.
-use Rattle.std.proofs.Common.{◌≡◌, ℕ, zero, suc, ◌+◌, ◌-◌, ◌≤◌, Bool, true, false, List, [], ◌∷◌, ◌++◌, length, take, Option, Some, None, Ok, refl, sym, ap, ◌∙◌, subst, arith, length-append, take_all}
-use Rattle.history_laws.proofs.Common.{back, Back, back_of, EndsARun, Goal, GoesBack, Happened, Hit, IfSome, In, Instr, LeadTo, leaves, led_to, move_leaves, move_of, moved, moves_equal, moves_from_oldest, MovesSaying, MovesTo, next_tick, OfProgram, one_move, printed_by, Program, program_of, Reached, resumed, Retired, stays, Stepped, Stopped, the_tick, Tick, Went}
-use Rattle.course.specs.Positions.{Course, Position, gone_back, noted_if, undone_to}
+use Rattle.history_laws.proofs.Common.{[], ap, arith, back, Back, back_of, back_tick, Beginning, Bool, Course, course_of, Debugged, EndsARun, false, Goal, GoesBack, gone_back, Happened, Hit, hit_at_pc, if_keeps, IfSome, In, Instr, is_met, LeadTo, leaves, led_append, led_to, length, length-append, List, meets_goal, move_leaves, move_of, moved, moved_as, Moves, moves_equal, moves_from_oldest, MovesSaying, MovesTo, next_tick, None, noted_if, OfProgram, Ok, one_move, Option, Outcome, outcome_of, Position, position_of, printed_by, Program, program_of, Reached, refl, resumed, Retired, Session, Some, start, stays, Stepped, Stopped, subst, suc, sym, take, take_all, the_tick, Tick, tick_of, true, undone_by, undone_to, Went, word_at, zero, ℕ, ◌++◌, ◌+◌, ◌-◌, ◌∙◌, ◌∷◌, ◌≡◌, ◌≤◌}
 use Rattle.history_laws.proofs.Again.{is_made, recorded_so}
 use Rattle.history_laws.proofs.Counted.{goes_on}
 use Rattle.history_laws.proofs.OneStep.{IsMoved, Starts, State, state_of, step_can_go, step_leaves}
 use Rattle.history_laws.proofs.Recorded.{every_past_is_a_run}
 use Rattle.history_laws.proofs.Ticking.{back_course}
 use Rattle.history_laws.specs.ByRequests.{Backward, Forward, IsStep, IsWhereItWas, MakesAgain, PrintsAgain, Steps, ThereAndBack}
-use Rattle.image.specs.Memory.{word_at}
 use Rattle.rv32i.specs.Machine.{Effect, Machine, machine_of}
 use Rattle.rv32i.specs.declared.stepped.Stepped.TheVariants as stepped
-use Rattle.session.proofs.Reaching.{if_keeps, led_append}
-use Rattle.session.specs.Sessions.{Beginning, Session, start}
 use Rattle.session_laws.proofs.Retiring.{is_fetched, last_off, past_is_remembered}
 use Rattle.session_laws.specs.Retiring.{IsPast, at_address, decoded, moved_on, retired_after, retired_by, retired_of, without_last}
 use Rattle.stepping.proofs.Determined.{one_fetched}
-use Rattle.stepping.specs.Goals.{is_met}
 use Rattle.stepping.specs.Past.{Remembers, RemembersPast, RetiredAt}
 use Rattle.stepping.specs.Stopping.{has_retired}
-use Rattle.stepping.specs.Ticks.{Debugged, Moves, back_tick, course_of, hit_at_pc, meets_goal, moved_as, outcome_of, position_of, tick_of, undone_by}
 use Rattle.stepping.specs.declared.goal.Granularity.TheVariants.{Instruction as Single}
-use Rattle.stepping.specs.declared.tick.Outcome.{Outcome}
 use Rattle.stepping.specs.declared.tick.Reason.TheVariants as met
 
 -- ---- where a machine may be
@@ -44,7 +36,7 @@ record Before (t u : State) : Type 0 where
   count : u.count ≡ t.count + 1
   retired : u.retired ≡ t.retired ++ at_position t.course.now
 
--- and so many, all recorded
+-- and this many, all recorded
 abbrev Far : ℕ → State → State → Type 0
 Far zero end t = Good t × (t ≡ end)
 Far (suc n) end t = Good t × ((u : State) × (Before t u × Far n end u))
@@ -150,7 +142,7 @@ retired_goes stepped.Break instr pc d h = refl
 retired_goes (stepped.Exit code) instr pc d h = absurd (let no : false ≡ true = h in cc)
 retired_goes (stepped.Trap cause) instr pc d h = absurd (let no : false ≡ true = h in cc)
 
--- one that meets its goal does not go on
+-- one that meets its goal does not continue
 halts : (hit : Hit) (meets : Bool) → meets ≡ true → outcome_of hit meets ≡ Went → ⊥
 halts hit true h =
     let P : Outcome → Type 0 = λ o. o ≡ Went → ⊥ in
@@ -243,7 +235,7 @@ forth_one p retired u good before then =
 
 -- ---- steps
 
--- so many steps forth lead to the end
+-- this many steps forth lead to the end
 Stands : ℕ → State → List Retired → Option Program → Type 0
 Stands n end now program = OfProgram (λ p. Far n end (state_of p.machine now)) program
 

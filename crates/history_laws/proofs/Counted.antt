@@ -1,13 +1,7 @@
 -- How many moves are recorded.
-use Rattle.history_laws.proofs.Common.{[], ap, arith, Bool, cond, false, Hit, if_keeps, Instr, length, length-take, List, MemFault, min, Ok, Option, refl, stays, Stepped, Stopped, subst, sym, Tick, turns_back, Went, ℕ, ◌+◌, ◌-◌, ◌∙◌, ◌∷◌, ◌≡◌}
-use Rattle.course.specs.Positions.{Course, Position, past_left, position_at}
+use Rattle.history_laws.proofs.Common.{[], ap, AreGivenUp, arith, Bool, by_tick, cond, count_after, Course, Debugged, false, gone_on, Hit, if_keeps, Instr, length, length-take, List, MemFault, min, moved_as, Moves, Ok, Option, Outcome, outcome_of, past_left, Position, position_at, refl, settled, stays, Stepped, Stopped, subst, sym, Tick, tick_of, TicksAreCounted, turns_back, undone_by, unless_fault, Went, ℕ, ◌+◌, ◌-◌, ◌∙◌, ◌∷◌, ◌≡◌}
 use Rattle.history_laws.proofs.Ticking.{hit_goes, looked_course}
-use Rattle.history_laws.specs.Recorded.{AreGivenUp, TicksAreCounted, count_after}
-use Rattle.image.specs.Memory.{unless_fault}
 use Rattle.rv32i.specs.declared.stepped.Stepped.TheVariants as stepped
-use Rattle.stepping.proofs.Cases.{by_tick}
-use Rattle.stepping.specs.Ticks.{Debugged, Moves, gone_on, moved_as, outcome_of, settled, tick_of, undone_by}
-use Rattle.stepping.specs.declared.tick.Outcome.{Outcome}
 use Rattle.stepping.specs.declared.tick.Reason.TheVariants as why
 
 -- ---- a tick
@@ -28,7 +22,7 @@ one_more before after instr e =
     (position_at before.hart.pc (record { hart = before.hart; memory = before.memory; calls = before.calls }) ∷ before.past) in
     omega (arith, past, most)
 
--- as many as were, or one more, by what came of the move
+-- as many as were, or one more, by the outcome of the move
 abbrev Counts : Debugged → Debugged → Outcome → Type 0
 Counts before after outcome = length after.past ≡ count_after false outcome (length before.past)
 

@@ -1,29 +1,20 @@
 -- How many moves are recorded after each event.
-use Rattle.history_laws.proofs.Common.{[], Answered, Answering, answering_debuggee, ap, arith, beats, becomes_program, Bool, by_move, by_turn, ByTurn, Command, concluded, cond, Connect, Cut, Debugged, departed, DropConnection, Ended, enough, eqb, false, FULL, given_of, Happened, Hold, if_keeps, intent_of, is_success, is_to_end, is_to_stand, LAST_CONNECTION, leb, length, length-take, Link, List, ltb, Mark, min, MOST_PENDING, MOST_PIECE, move_leaves, next_by, None, Now, of_answer, Ok, on, Option, Pending, performed, program_of, Reached, Recv, refl, Refusal, Result, Run, Sent, Slice, SliceEnd, Slicing, Some, Stopped, subst, suc, sym, take, telling_program, tells_only, Terms, the_tick, Tick, true, Turn, turns_back, Wanted, Went, Whole, Why, with_list, zero, ℕ, ℤ, ◌+◌, ◌-◌, ◌∙◌, ◌∷◌, ◌≡◌, ◌≤◌}
+use Rattle.history_laws.proofs.Common.{[], agrees, answer_to, Answered, Answering, answering_debuggee, ap, arith, asks_to_give_up, Beat, beat_by, beat_of, beats, becomes_program, Beginning, Bool, by_move, by_success, by_turn, BySuccess, ByTurn, Command, concluded, cond, Connect, count_after, count_answered, count_moved, count_of, count_sliced, Cut, Debugged, Debuggee, departed, DropConnection, Effect, ended, Ended, ending_of, ends, EndsARun, enough, entered, eqb, EventsAreCounted, exit_events, exits, false, fault_at, first_run, FULL, given_of, gives_up, goes, goes_unless, Happened, histories, Hold, if_keeps, IfOk, IfSome, intent_of, is_at_limit, is_ended, is_runnable_by, is_running, is_success, is_to_end, is_to_stand, LAST_CONNECTION, leb, left, length, length-take, Link, List, ltb, makes_move, Mark, marked, marked_by, MatchOption, min, MOST_PENDING, MOST_PIECE, move_leaves, moved, moves_by, next_by, next_tick, None, not, Now, of_answer, Ok, on, on_program, Option, Outcome, outcome_at, Pending, performed, Program, program_of, Reached, recorded_of, Recv, refl, Refusal, restarted, Result, resumed, Run, Sent, Session, Slice, SliceEnd, Slicing, Some, stays, steps, stop_event, stopped, Stopped, stops, subst, suc, sym, take, telling, telling_program, tells, tells_only, Terms, the_tick, Tick, told, true, Turn, turns_back, Wanted, Went, Whole, Why, why_marked, with_hart, with_list, written, zero, ℕ, ℤ, ◌&&◌, ◌+◌, ◌-◌, ◌||◌, ◌∙◌, ◌∷◌, ◌≡◌, ◌≤◌}
 use Rattle.std.proofs.lemmas.Bool.{or_left, or_right}
-use Rattle.std.specs.Prelude.{IfOk, IfSome, ◌&&◌, ◌||◌, not, MatchOption}
 use Rattle.answers.proofs.ProperValues.{writings_fit}
 use Rattle.answers.specs.Answers.{sets_breakpoints}
 use Rattle.answers.specs.Looking.{looks_in}
 use Rattle.answers.specs.WriteMemory.{write_memory}
 use Rattle.answers.specs.declared.write_memory.Writing.{Writing}
-use Rattle.debuggee.specs.Programs.{Debuggee, Program, ended, entered, first_run, is_ended, is_running, left, marked, marked_by, moved, next_tick, on_program, restarted, resumed, stays, stopped, told, why_marked, with_hart, written}
 use Rattle.debuggee.specs.declared.run.Mark.TheVariants as mark
 use Rattle.debuggee.specs.declared.run.Run.TheVariants as run
 use Rattle.debuggee.specs.declared.run.Why.TheVariants as why
-use Rattle.handlers.specs.Telling.{exit_events, stop_event}
 use Rattle.history_laws.proofs.Counted.{are_given_up, ticks_are_counted}
 use Rattle.history_laws.proofs.Recorded.{every_past_is_a_run}
-use Rattle.history_laws.specs.Recorded.{EndsARun, EventsAreCounted, asks_to_give_up, count_after, count_answered, count_moved, count_of, count_sliced, gives_up, recorded_of}
-use Rattle.image.specs.Memory.{fault_at}
 use Rattle.protocol.specs.declared.command.Command.TheVariants as command
 use Rattle.protocol.specs.declared.write_memory.WriteMemoryArguments.{WriteMemoryArguments}
-use Rattle.session.proofs.BySuccess.{BySuccess, agrees, by_success, steps}
-use Rattle.session.specs.Outcomes.{Outcome as Does, answer_to, outcome_at}
-use Rattle.session.specs.Sessions.{Beginning, Effect, Session, histories}
-use Rattle.session.specs.Slices.{Beat, beat_by, beat_of, ending_of, ends, exits, goes, goes_unless, is_at_limit, is_runnable_by, makes_move, moves_by, stops, telling, tells}
+use Rattle.session.specs.Outcomes.{Outcome as Does}
 use Rattle.session.specs.declared.event.SliceEnd.TheVariants as ending
-use Rattle.stepping.specs.declared.tick.Outcome.{Outcome}
 use Rattle.stepping.specs.declared.tick.Reason.TheVariants as met
 
 -- ---- what is done to a program
@@ -184,7 +175,7 @@ turn_counts file s = by_turn (histories.see s) file P kinds s.now.link where
 
 -- ---- a beat
 
--- so many are recorded after so many moves of a slice, which leaves the way that the program goes
+-- how many are recorded after some moves of a slice, which leaves the way that the program goes
 abbrev Has : Debugged → ℕ → Program → Type 0
 Has start made q = (turns_back q.machine.goal ≡ turns_back start.goal)
     × (length q.machine.past ≡ count_moved (turns_back start.goal) made (length start.past))

@@ -1,13 +1,9 @@
 -- A success of a request to go back has the program go back from where it stood.
-use Rattle.history_laws.proofs.Common.{[], answer_to, Answering, answering_debuggee, ap, arith, Back, Beginning, Bool, Command, cond, course_of, Debuggee, demand_of, false, FULL, Given, given_of, Goal, Happened, histories, IfSome, intent_of, is_success, length, Link, List, ltb, Meets, None, Now, of_answer, on_program, Option, OrderlyOf, past_of, Pending, performed, Position, Program, program_of, Reached, refl, resumed, ReverseGo, Session, Some, subst, success_by, success_of, sym, Terms, Tick, true, Turn, ℕ, ◌∷◌, ◌≡◌, ◌≤◌}
-use Rattle.protocol.specs.declared.command.Command.TheVariants.{ReverseContinue, StepBack}
-use Rattle.handlers.specs.Demands.{goes_on, run_of}
+use Rattle.history_laws.proofs.Common.{[], answer_to, Answered, answered_by, answered_on, answered_with, Answering, answering_debuggee, answers_next, ap, arith, Back, Beginning, BeginsBack, Bool, Command, cond, course_of, Debuggee, demand_of, done, false, first_answered, FULL, Given, given_of, Goal, goal_asked, goal_of, goes_on, GoesBackFrom, Happened, histories, IfSome, intent_of, is_success, length, Link, List, ltb, Meets, next_answered, next_turn, None, Now, of_answer, OfProgram, on_program, Option, OrderlyOf, outcome_at, past_of, Pending, performed, Position, Program, program_of, Reached, refl, resumed, ReverseContinue, ReverseGo, run_of, Session, Some, StepBack, subst, success_by, success_of, sym, Terms, Tick, true, Turn, turn_by, turn_of, TurnsBeginBack, ℕ, ◌∷◌, ◌≡◌, ◌≤◌}
 use Rattle.history_laws.proofs.Recorded.{always_orderly}
-use Rattle.history_laws.specs.GoingBack.{BeginsBack, GoesBackFrom, OfProgram, TurnsBeginBack, goal_asked, goal_of}
-use Rattle.session.specs.Outcomes.{Outcome as Does, answers_next, done, next_turn, outcome_at, turn_by, turn_of}
+use Rattle.session.specs.Outcomes.{Outcome as Does}
 use Rattle.session.specs.declared.event.Applied.TheVariants.{Turn as DidTurn}
 use Rattle.session.specs.declared.event.Turned.TheVariants as turned
-use Rattle.session_laws.specs.Turns.{Answered, answered_by, answered_on, answered_with, first_answered, next_answered}
 
 -- nothing is left to be told
 abbrev OwesNothing : Option Program → Type 0

@@ -1,6 +1,5 @@
--- A run back stops at the newest place of which it is so, and else at the oldest.
-use Rattle.std.proofs.Common.{◌≡◌, ℕ, zero, suc, ◌<◌, ◌≤◌, Bool, true, false, cond, List, [], ◌∷◌, length, ◌⊎◌, inl, inr, refl, sym, ap, ◌∙◌, subst, arith}
-use Rattle.history_laws.proofs.Common.{Course, LeadTo, Makes, moves_equal, moves_from_oldest, MovesTo, oldest_of, Position}
+-- A run back stops at the newest place where the test holds, and else at the oldest.
+use Rattle.history_laws.proofs.Common.{[], ap, arith, Bool, cond, Course, false, inl, inr, LeadTo, length, List, Makes, moves_equal, moves_from_oldest, MovesTo, oldest_of, Position, refl, subst, suc, sym, true, zero, ℕ, ◌<◌, ◌∙◌, ◌∷◌, ◌≡◌, ◌≤◌, ◌⊎◌}
 use Rattle.history_laws.specs.RunningBack.{IsNewest, RunsBackToTheNewest}
 use Rattle.stepping.specs.StoppingBack.{turned}
 

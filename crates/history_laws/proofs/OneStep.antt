@@ -1,21 +1,16 @@
 -- What a step by a request leaves: the machine after one tick, where a reason of the machine stopped the program.
-use Rattle.history_laws.proofs.Common.{[], Answering, answering_debuggee, ap, arith, Back, Beat, beat_by, beat_of, beats, becomes_program, Bool, by_move, by_turn, ByTurn, Command, concluded, cond, Connect, Course, course_of, Cut, Debugged, Debuggee, DropConnection, Ended, ends, enough, false, first_mark, FULL, given_of, goes, goes_unless, Happened, Hold, if_keeps, In, inl, inr, intent_of, is_at_limit, is_runnable_by, is_running, is_success, leaves, leb, led_to, length, Link, List, ltb, makes_move, Mark, marked, marked_by, MOST_PENDING, MOST_PIECE, moved, moves_by, next_by, next_tick, None, not, Now, of_answer, OfProgram, on, on_program, Option, owing_by, past_of, Pending, performed, Position, Program, program_of, Reason, Recv, refl, resumed, Retired, Run, Seen, Sent, Slice, SliceEnd, Slicing, Some, stays, stop_event, stopped, Stopped, stops, subst, suc, success_by, success_of, sym, telling, telling_program, tells, tells_only, Terms, the_tick, Tick, told, true, Turn, Went, Whole, Why, why_marked, zero, ℕ, ℤ, ◌&&◌, ◌∙◌, ◌∷◌, ◌≡◌, ◌≢◌, ◌≤◌, ◌⊎◌}
+use Rattle.history_laws.proofs.Common.{[], answer_to, Answered, answered, answered_by, answered_on, answered_with, answering, Answering, answering_debuggee, ap, arith, Back, Bad, Beat, beat_by, beat_of, beats, becomes_program, Bool, by_move, by_turn, ByTurn, Command, concluded, cond, Connect, Course, course_of, Cut, Debugged, Debuggee, DropConnection, Effect, Ended, ends, enough, false, first_mark, FULL, given_of, goes, goes_unless, Happened, histories, Hold, if_keeps, In, inl, inr, intent_of, is_at_limit, is_runnable_by, is_running, is_success, leaves, leb, led_to, length, Link, List, ltb, makes_move, Mark, marked, marked_by, MOST_PENDING, MOST_PIECE, moved, moves_by, next_by, next_tick, None, not, Now, of_answer, OfProgram, on, on_program, Option, Outcome, outcome_at, owing_by, past_of, Pending, performed, Position, Program, program_of, Reason, Recv, refl, Request, resumed, Retired, Run, Seen, Sent, Session, Slice, SliceEnd, Slicing, Some, stays, StepBack, StepIn, stop_event, stopped, Stopped, stops, subst, suc, success_by, success_of, sym, telling, telling_program, tells, tells_only, Terms, the_tick, Tick, told, true, Turn, Went, Whole, Why, why_marked, zero, ℕ, ℤ, ◌&&◌, ◌∙◌, ◌∷◌, ◌≡◌, ◌≢◌, ◌≤◌, ◌⊎◌}
 use Rattle.debuggee.specs.declared.run.Mark.TheVariants as mark
 use Rattle.debuggee.specs.declared.run.Run.TheVariants as run
 use Rattle.debuggee.specs.declared.run.Why.TheVariants as why
 use Rattle.handlers.specs.Stepping.{granularity_of}
 use Rattle.history_laws.proofs.Beating.{stands_idle}
 use Rattle.history_laws.specs.ByRequests.{AreQuiet, Asks, AsksFor, Backward, Direction, Forward, HasMet, IsQuiet, IsStep, LeavesProgram, goal_by}
-use Rattle.protocol.specs.declared.command.Command.TheVariants.{StepBack, StepIn}
 use Rattle.queues.specs.declared.pending.Ask.{Ask}
-use Rattle.queues.specs.declared.pending.Ask.TheVariants.{Request, Bad}
-use Rattle.session.specs.Outcomes.{Outcome as Does, answer_to, answering, outcome_at}
-use Rattle.session.specs.Sessions.{Effect, Session, histories}
+use Rattle.session.specs.Outcomes.{Outcome as Does}
 use Rattle.session.specs.declared.event.SliceEnd.TheVariants as ending
 use Rattle.session_laws.specs.Retiring.{after_answer, after_move, after_next, and_next, and_retired, asks_to_load, loads, moved_on, retired_after, retired_by, retired_in}
-use Rattle.session_laws.specs.Turns.{Answered, answered, answered_by, answered_on, answered_with}
 use Rattle.stepping.specs.declared.goal.Granularity.{Granularity}
-use Rattle.stepping.specs.declared.tick.Outcome.{Outcome}
 
 -- ---- where a machine is
 
@@ -118,7 +113,7 @@ turn_same d s file a retired e asks =
 
 -- ---- the step
 
--- no check is due, its next move is made, and of that there is something to tell
+-- no check is due, its next move is made, and there is something to tell of that
 pub record Starts (p : Program) : Type 0 where
   pub due : p.machine.check_due ≡ false
   pub goes : stays (next_tick p).outcome ≡ false

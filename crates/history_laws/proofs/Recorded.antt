@@ -1,6 +1,5 @@
 -- What is recorded is a run, and how many moves it has.
-use Rattle.history_laws.proofs.Common.{Beginning, course_of, Debugged, Happened, IfSome, List, moves_from_oldest, None, Option, OrderlyOf, Program, Reached, Session, Some}
-use Rattle.history_laws.specs.Recorded.{EndsARun, EveryPastIsARun}
+use Rattle.history_laws.proofs.Common.{Beginning, course_of, Debugged, EndsARun, EveryPastIsARun, Happened, IfSome, List, moves_from_oldest, None, Option, OrderlyOf, Program, Reached, Session, Some}
 use Rattle.range_laws.specs.Debugging.{DebuggedInRange}
 use Rattle.session_laws.proofs.Turning.{KeptByEvents, both_reached}
 

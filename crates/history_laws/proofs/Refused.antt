@@ -1,10 +1,5 @@
 -- Going back is refused with `noHistory` exactly where nothing is recorded.
-use Rattle.std.proofs.Common.{◌≡◌, ℕ, Bool, true, false, List, [], ◌∷◌, length, Option, Some, None, is_some, refl, sym, ap, ◌∙◌, subst, arith}
-use Rattle.std.specs.Prelude.{◌↔◌, ◌&&◌, not, ⊤}
-use Rattle.history_laws.proofs.Common.{Command, Given, given_of, Goal, goal_of, intent_of, Link, Now, past_of, Position, Program, recorded_of, Refusal, Request, Run, Session, success_by, Terms}
-use Rattle.protocol.specs.declared.command.Command.TheVariants.{ReverseContinue, StepBack}
-use Rattle.handlers.specs.Demands.{goes_on, has_ended, has_none, is_no_thread, run_of}
-use Rattle.handlers.specs.Requests.{demand_of, is_taken_in, success_of}
+use Rattle.history_laws.proofs.Common.{[], ap, arith, Bool, Command, demand_of, false, Given, given_of, Goal, goal_of, goes_on, has_ended, has_none, intent_of, is_no_thread, is_some, is_taken_in, length, Link, List, None, not, Now, Option, past_of, Position, Program, recorded_of, refl, Refusal, Request, ReverseContinue, Run, run_of, Session, Some, StepBack, subst, success_by, success_of, sym, Terms, true, ℕ, ⊤, ◌&&◌, ◌↔◌, ◌∙◌, ◌∷◌, ◌≡◌}
 use Rattle.handlers.specs.declared.phase.Phase.{Phase}
 use Rattle.history_laws.specs.Refused.{NoHistoryExactly}
 use Rattle.protocol.specs.declared.refusal.Refusal.TheVariants as refusal
@@ -50,7 +45,7 @@ before_is_other run phase r fate =
 
 -- ---- where none comes before
 
--- what comes of it, by what is recorded
+-- what it leads to, by what is recorded
 Speaks : List Position → Outcome → Type 0
 Speaks [] out = out ≡ Refused refusal.NoHistory None
 Speaks (before ∷ past) out = out ≡ Done body.Empty
@@ -79,7 +74,6 @@ by_past (before ∷ past) n out long says = (
   λ none. absurd (omega (arith, long, none)),
 )
 
--- a refusal is one refusal
 same_refusal : (x y : Refusal) → Refused x None ≡ Refused y None → x ≡ y
 same_refusal x y e = cc
 

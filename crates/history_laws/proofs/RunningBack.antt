@@ -1,6 +1,5 @@
 -- A run back stops where it has to.
-use Rattle.history_laws.proofs.Common.{[], ap, Back, back_of, back_outcome, back_tick, Beat, beat_by, beat_of, beats, Bool, by_move, concluded, Course, course_of, Cut, Debugged, Ended, ends, enough, false, FULL, Go, Goal, goes, goes_unless, GoesBack, Happened, histories, Hit, if_keeps, In, inl, inr, is_at_limit, is_runnable_by, is_running, Leaves, leaves, led_to, length, List, looked_at, ltb, makes_move, Mark, move_leaves, moved, moves_by, next_by, next_tick, None, OfProgram, Ok, Option, Out, outcome_or, Over, owing_by, performed, Position, position_of, Program, program_of, Reason, refl, ReverseGo, Session, Slice, SliceEnd, Slicing, Some, standing_in, stays, stopped, Stopped, subst, suc, sym, telling, telling_program, the_tick, Tick, told, true, turns_back, undone, undone_by, unless_start, Went, Whole, zero, ℕ, ℤ, ◌∙◌, ◌∷◌, ◌≡◌, ◌≤◌, ◌⊎◌}
-use Rattle.std.specs.Prelude.{All, not}
+use Rattle.history_laws.proofs.Common.{[], All, ap, Back, back_of, back_outcome, back_tick, Beat, beat_by, beat_of, beats, Bool, by_move, concluded, Course, course_of, Cut, Debugged, Ended, ends, enough, false, FULL, Go, Goal, goes, goes_unless, GoesBack, Happened, histories, Hit, if_keeps, In, inl, inr, is_at_limit, is_runnable_by, is_running, leaves, Leaves, led_to, length, List, looked_at, ltb, makes_move, Mark, move_leaves, moved, moves_by, next_by, next_tick, None, not, OfProgram, Ok, Option, Out, Outcome, outcome_or, Over, owing_by, performed, Position, position_of, Program, program_of, Reason, refl, ReverseGo, Session, Slice, SliceEnd, Slicing, Some, standing_in, stays, stopped, Stopped, subst, suc, sym, telling, telling_program, the_tick, Tick, told, true, turns_back, undone, undone_by, unless_start, Went, Whole, zero, ℕ, ℤ, ◌∙◌, ◌∷◌, ◌≡◌, ◌≤◌, ◌⊎◌}
 use Rattle.std.proofs.lemmas.List.Elements.{All-head, All-tail}
 use Rattle.debuggee.specs.declared.run.Run.TheVariants as run
 use Rattle.debuggee.specs.declared.run.Why.TheVariants as why
@@ -10,7 +9,6 @@ use Rattle.history_laws.specs.RunningBack.{IsTime, RunsBackStopThere, StopsBackT
 use Rattle.session.specs.declared.event.SliceEnd.TheVariants as ending
 use Rattle.stepping.proofs.Reversing.{runs_back_turn}
 use Rattle.stepping.specs.StoppingBack.{TurnsTo, turned_from}
-use Rattle.stepping.specs.declared.tick.Outcome.{Outcome}
 use Rattle.stepping.specs.declared.tick.Reason.TheVariants as met
 
 -- ---- where it is
@@ -19,7 +17,6 @@ use Rattle.stepping.specs.declared.tick.Reason.TheVariants as met
 abbrev Stop : Type 0
 Stop = Course × Outcome
 
--- it is ahead
 abbrev Ahead : Stop → Debugged → Type 0
 Ahead stop d = (turned_from d ≡ stop.0) × (stop_at d.lists stop.0.now ≡ stop.1)
 
@@ -74,11 +71,7 @@ way_after stop d (Some number) (Ended code) logs h = absurd h
 -- that breakpoints are looked at, or a move is undone, replaces none of them
 looked_stands : (g : Goal) (d : Debugged) (p : Position) → stop_at (looked_at g d).lists p ≡ stop_at d.lists p
 looked_stands ReverseGo d p = refl
-looked_stands Go d p = refl
-looked_stands (In granularity) d p = refl
-looked_stands (Over granularity) d p = refl
-looked_stands (Out granularity) d p = refl
-looked_stands Back d p = refl
+looked_stands _ d p = refl
 
 undone_stands : (past : List Position) (d : Debugged) (p : Position) → stop_at (undone_by past d).lists p ≡ stop_at d.lists p
 undone_stands [] d p = refl

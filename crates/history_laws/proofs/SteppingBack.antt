@@ -1,28 +1,20 @@
 -- A step back goes one move back, whatever happens.
-use Rattle.history_laws.proofs.Common.{[], Answered, Answering, answering_debuggee, ap, Back, back_of, back_outcome, back_tick, Beat, beat_by, beat_of, beats, becomes_program, Bool, by_success, BySuccess, Command, concluded, Connect, Course, course_of, demand_of, departed, DropConnection, ends, enough, eqb, false, FULL, given_of, Goal, goes, goes_unless, GoesBack, GoesBackFrom, gone_back, Hold, if_keeps, inl, inr, intent_of, is_at_limit, is_runnable_by, is_success, is_to_end, is_to_stand, LAST_CONNECTION, Leaves, leb, length, Link, List, ltb, Mark, Meets, MOST_PENDING, MOST_PIECE, move_leaves, moves_by, next_by, None, Now, of_answer, OfProgram, Ok, on, Option, Pending, performed, program_of, Recv, refl, Run, Sent, Slice, SliceEnd, Slicing, Some, stop_event, stops, subst, suc, sym, telling, telling_program, tells, tells_only, Terms, the_tick, Tick, true, Turn, turns_back, undone, Wanted, Why, with_list, zero, ℕ, ◌∙◌, ◌∷◌, ◌≡◌, ◌≢◌, ◌⊎◌}
-use Rattle.std.specs.Prelude.{◌&&◌, not, bytes_eq}
+use Rattle.history_laws.proofs.Common.{[], answer_to, Answered, answering, Answering, answering_debuggee, ap, Back, back_of, back_outcome, back_tick, Beat, beat_by, beat_of, beats, becomes_program, Bool, by_success, by_turn, BySuccess, bytes_eq, ByTurn, Command, concluded, Connect, Course, course_of, Cut, Debuggee, demand_of, departed, done, DropConnection, Effect, ended, ends, enough, eqb, false, first_mark, FULL, given_of, Goal, goes, goes_on, goes_unless, GoesBack, GoesBackFrom, gone_back, Happened, histories, Hold, if_keeps, inl, inr, intent_of, is_at_limit, is_ended, is_runnable_by, is_running, is_success, is_to_end, is_to_stand, LAST_CONNECTION, leaves, Leaves, leb, left, length, Link, List, ltb, Mark, marked, marked_by, Meets, MOST_PENDING, MOST_PIECE, move_leaves, moved, moves_by, next_by, next_tick, None, not, Now, of_answer, OfEvent, OfProgram, Ok, on, on_program, Option, Outcome, outcome_at, owing_by, Pending, performed, Program, program_of, Recv, refl, Run, run_after, run_left, run_of, Sent, Session, SetBreakpoints, SetFunctionBreakpoints, SetInstructionBreakpoints, SetVariable, Slice, SliceEnd, Slicing, Some, stays, stop_event, stopped, stops, subst, suc, sym, telling, telling_program, tells, tells_only, Terms, the_answered, the_tick, Tick, told, true, Turn, turns_back, undone, Wanted, Whole, Why, why_marked, with_functions, with_instructions, with_list, with_source, WriteMemory, zero, ℕ, ◌&&◌, ◌∙◌, ◌∷◌, ◌≡◌, ◌≢◌, ◌⊎◌}
 use Rattle.stepping.specs.Loading.{no_breakpoints}
-use Rattle.debuggee.specs.Programs.{Debuggee, Program, ended, first_mark, is_ended, is_running, left, run_after, run_left, marked, marked_by, moved, next_tick, on_program, owing_by, stays, stopped, told, why_marked, with_functions, with_instructions, with_source}
 use Rattle.debuggee.specs.declared.run.Mark.TheVariants as mark
 use Rattle.debuggee.specs.declared.run.Run.TheVariants as run
 use Rattle.debuggee.specs.declared.run.Why.TheVariants as why
-use Rattle.handlers.specs.Demands.{goes_on, run_of}
 use Rattle.history_laws.proofs.Beating.{never_at_limit, stands_idle}
 use Rattle.history_laws.proofs.Ticking.{back_course, back_goes}
 use Rattle.history_laws.specs.SteppingBack.{HasEnded, HasSteppedBack, IsStartedOrEnded, IsUnderWay, StartsOrEnds, StepsBack, StepsBackIn, StepsGoOneBack, asks_to_start_or_end, starts_or_ends, step_made}
 use Rattle.protocol.specs.Commands.{name_of}
-use Rattle.protocol.specs.declared.command.Command.TheVariants.{SetBreakpoints, SetFunctionBreakpoints, SetInstructionBreakpoints, SetVariable, WriteMemory}
 use Rattle.protocol.specs.declared.disconnect.TheConstants.{NAME as DISCONNECT}
 use Rattle.queues.specs.Arrivals.{name_asked}
-use Rattle.session.specs.Outcomes.{Outcome as Does, answer_to, answering, done, outcome_at}
-use Rattle.session.specs.Reached.{Happened, Whole, Cut, OfEvent, leaves}
-use Rattle.session.specs.Sessions.{Effect, Session, histories}
+use Rattle.session.specs.Outcomes.{Outcome as Does}
 use Rattle.session.specs.declared.event.Applied.TheVariants.{Turn as DidTurn}
 use Rattle.session.specs.declared.event.Event.{Event}
 use Rattle.session.specs.declared.event.SliceEnd.TheVariants as ending
 use Rattle.session.specs.declared.event.Turned.TheVariants as turned
-use Rattle.session_laws.proofs.Answered.{ByTurn, by_turn, the_answered}
-use Rattle.stepping.specs.declared.tick.Outcome.{Outcome}
 use Rattle.stepping.specs.declared.tick.Reason.TheVariants as met
 
 -- it steps back, or has

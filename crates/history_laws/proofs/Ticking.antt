@@ -1,7 +1,6 @@
--- What a tick comes to and leaves: how it goes on, and, where it goes back, the move that is undone.
-use Rattle.history_laws.proofs.Common.{[], arith, Back, back_outcome, Course, course_of, Debugged, false, Go, Goal, gone_back, Hit, if_keeps, In, LeadTo, length, List, looked_at, Makes, moves_from_oldest, oldest_of, Out, outcome_or, Over, Position, refl, ReverseGo, standing_in, stays, subst, suc, undone_by, undone_to, unless_start, ℕ, ◌∙◌, ◌∷◌, ◌≡◌}
+-- What a tick comes to and leaves: how it continues, and, where it goes back, the move that is undone.
+use Rattle.history_laws.proofs.Common.{[], arith, Back, back_outcome, Course, course_of, Debugged, false, Go, Goal, gone_back, Hit, if_keeps, In, LeadTo, length, List, looked_at, Makes, moves_from_oldest, oldest_of, Out, Outcome, outcome_or, Over, Position, refl, ReverseGo, standing_in, stays, subst, suc, undone_by, undone_to, unless_start, ℕ, ◌∙◌, ◌∷◌, ◌≡◌}
 use Rattle.history_laws.specs.SteppingBack.{OneEarlier}
-use Rattle.stepping.specs.declared.tick.Outcome.{Outcome}
 
 -- ---- where no instruction traps or ends the program
 
@@ -18,23 +17,15 @@ left_goes (before ∷ past) = refl
 
 -- a move that is undone neither traps nor ends it
 pub back_goes : (g : Goal) (d : Debugged) → stays (back_outcome g d) ≡ false
-back_goes Go d = refl
-back_goes (In granularity) d = refl
-back_goes (Over granularity) d = refl
-back_goes (Out granularity) d = refl
-back_goes Back d = refl
 back_goes ReverseGo d = hit_goes (standing_in d.hart.pc d.hart d.memory d.lists) (unless_start d.past) (left_goes d.past)
+back_goes _ d = refl
 
 -- ---- a move is undone
 
 -- that breakpoints are looked at moves nothing
 pub looked_course : (g : Goal) (d : Debugged) → course_of (looked_at g d) ≡ course_of d
 looked_course Go d = refl
-looked_course (In granularity) d = refl
-looked_course (Over granularity) d = refl
-looked_course (Out granularity) d = refl
-looked_course Back d = refl
-looked_course ReverseGo d = refl
+looked_course _ d = refl
 
 undone_course : (past : List Position) (d : Debugged) → d.past ≡ past → course_of (undone_by past d) ≡ undone_to past (course_of d)
 undone_course [] d e = refl

@@ -4,7 +4,7 @@
 -- the same. So from as many moves back as one likes as many moves lead to where the machine is, and no others do: hart, memory
 -- and calls are then the same, and each number that was printed on the way is printed again.
 --
--- A move of the program is one of its hart, where it goes on and an instruction retires; where it goes back, a move of the
+-- A move of the program is one of its hart, where it continues and an instruction retires; where it goes back, a move of the
 -- program undoes one.
 use Rattle.std.specs.Prelude.{◌≡◌, ℕ, ℤ, ◌≤◌, true, false, IfSome, List, [], ◌∷◌, length, Option, Some, None}
 use Rattle.course.specs.Positions.{Position, gone_back}
@@ -52,7 +52,7 @@ MakesSaying [] start now = now ≡ start
 MakesSaying (answer ∷ answers) start now =
     (middle : Position) × (MakesSaying answers start middle × MovesSaying answer middle now)
 
--- So many moves, answered so, lead from there to here; and whatever as many lead to is here, and they are answered so.
+-- k moves, answered so, lead from there to here; and whatever k moves lead to is here, and they are answered so.
 pub record IsReached (k : ℕ) (there here : Position) : Type 0 where
   pub answers : List Stepped
   pub many : length answers ≡ k

@@ -1,6 +1,6 @@
 -- Back and forth by requests (DAP specification, `StepBackRequest`, `StepInRequest`, `SteppingGranularity`).
 --
--- An editor steps back so many times, and then steps in as many times by instruction. Then the machine is the one that it was:
+-- An editor steps back k times, and then steps in k times by instruction. Then the machine is the one that it was:
 -- its hart, its memory and its calls, the moves that are recorded, how many instructions have retired, and all of these. Each
 -- step forth makes the move again that a step back undid, and prints what that move prints.
 --
@@ -93,7 +93,7 @@ pub record IsStep (direction : Direction) (s : Session) (happened : List Happene
   pub quiet : AreQuiet after (leaves s (Whole (Turn file)))
   pub ends : OfProgram HasMet (led_to happened s).now.debuggee.program
 
--- so many, one directly after the other
+-- this many, one directly after the other
 abbrev pub Steps : Direction → ℕ → Session → List Happened → Type 0
 Steps direction zero s happened = happened ≡ []
 Steps direction (suc k) s happened =
@@ -107,7 +107,7 @@ abbrev pub IsWhereItWas : Program → Program → Type 0
 IsWhereItWas p q =
     (course_of q.machine ≡ course_of p.machine) × (q.machine.retired ≡ p.machine.retired)
 
--- After so many steps back and as many forth the program is where it was, and the same instructions have retired.
+-- After k steps back and k steps forth the program is where it was, and the same instructions have retired.
 abbrev pub ThereAndBack : Type 0
 ThereAndBack = (from : Beginning) (before there again : List Happened) (k : ℕ) (p : Program)
     → (Reached from before).now.debuggee.program ≡ Some p

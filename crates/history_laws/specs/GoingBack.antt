@@ -16,7 +16,7 @@ use Rattle.session_laws.specs.Turns.{Answered, answered}
 use Rattle.stepping.specs.Ticks.{course_of}
 use Rattle.stepping.specs.declared.goal.Goal.{Goal}
 
--- there is a program of which this is so
+-- there is a program, and this is so of it
 abbrev pub OfProgram : (Program → Type 0) → Option Program → Type 0
 OfProgram P program = MatchOption program ⊥ P
 

@@ -1,6 +1,6 @@
 -- What is recorded: where the machine was before each of its last moves (DAP specification, `Capabilities.supportsStepBack`).
 --
--- A session keeps no run from its beginning on. It keeps positions, each of which makes one move to the next, and the newest
+-- A session does not keep a run from its beginning. It keeps positions: each makes one move to the next, and the newest
 -- makes one to where the machine is (`Leading` of `stepping`). So whoever goes back stands where the program has been: where
 -- the machine is now is what as many moves as are recorded make of the oldest, and a move that is undone leaves what one
 -- move less makes of it.
@@ -117,6 +117,6 @@ count_of s (Whole (Sent n)) = recorded_of s.now.debuggee.program
 count_of s (Whole DropConnection) = recorded_of s.now.debuggee.program
 count_of s (Cut n count) = count_sliced s.now.debuggee.program (beats histories n count s).moved
 
--- So many are recorded after each event, and after each slice that was cut.
+-- That many are recorded after each event, and after each slice that was cut.
 abbrev pub EventsAreCounted : Session → Type 0
 EventsAreCounted s = (x : Happened) → recorded_of (leaves s x).now.debuggee.program ≡ count_of s x

@@ -2,7 +2,7 @@
 --
 -- Let the program be given time, slice after slice, and let nothing else happen. It runs, or it stands at the newest
 -- recorded position at which a breakpoint stands, and where there is none, at the oldest: by the positions and the breakpoints
--- that there were before the first slice (`turned_from` of `stepping`). The reason is that of the first kind of breakpoint
+-- before the first slice (`turned_from` of `stepping`). The reason is that of the first kind of breakpoint
 -- that stands there, and else that nothing older is recorded. How the moves are cut into slices makes no difference, nor
 -- whether slices find memory.
 --
@@ -56,8 +56,8 @@ RunsBackStopThere s = (p : Program) (from : Course) (slices : List Happened) →
 
 -- ---- where that is
 
--- so many moves lead there from the oldest recorded position: fewer than are recorded; this is so of that place, or it is the
--- oldest; and it is so of no place that more moves lead to, but for the last
+-- as many moves as it has recorded lead there from the oldest recorded position, fewer than were recorded; this is so of that
+-- place, or it is the oldest; and it is so of no place that more moves lead to, but for the last
 pub record IsNewest (test : Position → Bool) (from stop : Course) : Type 0 where
   pub makes : Makes (length stop.past) (oldest from) stop.now
   pub below : length stop.past < length from.past

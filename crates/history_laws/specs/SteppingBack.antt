@@ -37,7 +37,7 @@ use Rattle.history_laws.specs.GoingBack.{GoesBackFrom, OfProgram}
 
 -- ---- where it is
 
--- what there is to tell of a step back that was made
+-- what is told of a step back that was made
 abbrev pub step_made : Tick
 step_made = record { printed = None; outcome = Stopped met.Goal }
 

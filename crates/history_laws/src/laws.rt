@@ -10,8 +10,8 @@ ghost use Rattle.history_laws.specs.RunningBack.{RunsBackStopThere, RunsBackToTh
 ghost use Rattle.history_laws.specs.Again.{BackAndForthAgain, MovesAreMade, MovesAreUndone};
 ghost use Rattle.history_laws.specs.ByRequests.{PrintsAgain, ThereAndBack};
 
-/// Whatever happens, the program's machine is what as many moves as are recorded make of the oldest recorded position, each of which
-/// makes one move to the next; and 65,536 are recorded at most.
+/// Whatever happens, the program's machine is where the recorded moves lead from the oldest recorded position: each position makes one
+/// move to the next; and 65,536 are recorded at most.
 pub fn every_past_is_a_run()
     ensures { (from : ABeginning) (happened : List Happened)
         → EveryPastIsARun (Reached from happened) }
@@ -19,7 +19,7 @@ pub fn every_past_is_a_run()
 
 /// Nothing is recorded of a program that was loaded or restarted, nor after its machine was changed from outside, as a success of
 /// `setVariable` or `writeMemory` does. A move at which an instruction retires is one more, up to 65,536, and one that is undone is one
-/// less; a trap, the end of the program and the check at its entry leave as many as there were. So it is of each event, whatever happened
+/// less; a trap, the end of the program and the check at its entry leave the number as it was. This holds of each event, whatever happened
 /// before it.
 pub fn moves_are_counted()
     ensures ticks { TicksAreCounted }
@@ -67,10 +67,10 @@ pub fn moves_are_made_again()
         → BackAndForthAgain (Reached from happened) }
 {}
 
-/// An editor steps back so many times, by `stepBack`, and then steps in as many times, by instruction. Where no mark and no limit stops the
-/// program, and nothing else changes it, its machine is the one that it was then: hart, memory, calls and the moves that are recorded, how
-/// many instructions have retired, and which. Each step forth makes the move again that a step back undid, and prints what the hart answers
-/// to it, so that a number that was printed is printed again.
+/// An editor steps back some number of times, by `stepBack`, and then steps in as many times, by instruction. Where no mark and no limit
+/// stops the program, and nothing else changes it, its machine is the one that it was then: hart, memory, calls and the moves that are
+/// recorded, how many instructions have retired, and which. Each step forth makes the move again that a step back undid, and prints what
+/// the hart answers to it, so that a number that was printed is printed again.
 pub fn back_and_forth_by_requests()
     ensures machine { ThereAndBack }
     ensures printed { PrintsAgain }

@@ -1,7 +1,6 @@
 -- What a search of a list from its first element on finds, by indexes.
-use Rattle.std.proofs.Common.{◌≡◌, ℕ, zero, suc, ◌<◌, ◌≤◌, Bool, true, false, cond, not, List, [], ◌∷◌, length, get_or, Some, None, refl, sym, ◌∙◌, ap, arith}
-use Rattle.std.specs.Prelude.{slice_get}
-use Rattle.std.specs.List.{find, AllWithin}
+use Rattle.image.proofs.Common.{[], AllWithin, ap, arith, Bool, cond, false, get_or, length, List, None, not, refl, slice_get, Some, suc, sym, true, zero, ℕ, ◌<◌, ◌∙◌, ◌∷◌, ◌≡◌, ◌≤◌}
+use Rattle.std.specs.List.{find}
 
 -- an element that a search finds: the first that passes
 pub record FoundAt {X : Type 0} (p : X → Bool) (xs : List X) (x : X) : Type 0 where

@@ -1,11 +1,8 @@
 -- Pages one after the other, as one list of bytes.
-use Rattle.std.proofs.Common.{◌≡◌, ℕ, zero, suc, ◌+◌, ◌*◌, ◌<◌, ◌≤◌, inl, inr, List, [], ◌∷◌, ◌++◌, length, take, drop, get_or, refl, sym, ap, ◌∙◌, arith, length-append, length-drop, append_assoc}
-use Rattle.std.specs.Prelude.{None, Some, replicate, slice_get, slice_set}
-use Rattle.std.specs.declared.vec.Vec.{Vec}
-use Rattle.std.specs.declared.alloc.Global.{Global}
-use Rattle.std.proofs.lemmas.List.{length-replicate, take-append-le, drop-append-le, append-nil, replicate-append-replicate, length_push}
+use Rattle.image.proofs.Common.{[], ap, append-nil, append_assoc, AreBlank, ArePages, arith, drop, drop-append-le, flat, get_or, Global, inl, inr, IsPage, length, length-append, length-drop, length-replicate, length_push, List, page_bytes, put, refl, replicate, replicate-append-replicate, slice_get, slice_set, suc, sym, take, take-append-le, Vec, zero, ℕ, ◌*◌, ◌++◌, ◌+◌, ◌<◌, ◌∙◌, ◌∷◌, ◌≡◌, ◌≤◌}
+use Rattle.std.specs.Prelude.{None, Some}
 use Rattle.image.proofs.Maps.{copy_at, get_first, get_later}
-use Rattle.image.specs.Pages.{zeros, page_bytes, put, IsPage, ArePages, AreBlank, flat}
+use Rattle.image.specs.Private.Pages.{zeros}
 
 abbrev pub Pages : Type 0
 Pages = List (Vec ℕ Global)
@@ -31,7 +28,7 @@ page_at [] i d each h = absurd (omega arith)
 page_at (p ∷ ps) zero d each h = each.0
 page_at (p ∷ ps) (suc i) d each h = page_at ps i d each.1 (omega arith)
 
--- so many bytes of a list after another of this length
+-- a list of this length is dropped, and `k` bytes of the list after it
 skip : (a b : List ℕ) (k : ℕ) → drop (length a + k) (a ++ b) ≡ drop k b
 skip [] b k = let e : 0 + k ≡ k = omega arith in ap (λ j. drop j b) e
 skip (x ∷ a) b k = let e : suc (length a) + k ≡ suc (length a + k) = omega arith in rw e (skip a b k)

@@ -1,3 +1,4 @@
+pub mod Common
 pub mod Maps
 mod Places
 mod Flat

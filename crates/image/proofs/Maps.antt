@@ -1,9 +1,7 @@
--- Elements of a list of which a part was read or replaced.
-use Rattle.std.proofs.Common.{◌≡◌, ℕ, zero, suc, ◌+◌, ◌-◌, ◌<◌, ◌≤◌, Bool, true, false, cond, eqb, ltb, leb, ◌&&◌, List, [], ◌∷◌, ◌++◌, length, take, drop, replicate, Some, None, refl, sym, ap, ◌∙◌, arith, length-append}
-use Rattle.std.specs.Prelude.{is_some, slice_get}
-use Rattle.std.proofs.lemmas.Bool.Decides.{nat_tests}
+-- Elements of a list when a part of it was read or replaced.
+use Rattle.image.proofs.Common.{[], ap, arith, Bool, byte_at, bytes_at, cond, drop, eqb, false, first_address, has_bytes, is_some, leb, length, length-append, List, ltb, nat_tests, None, refl, slice_get, Some, suc, sym, take, true, with_bytes, zero, ℕ, ◌&&◌, ◌++◌, ◌+◌, ◌-◌, ◌<◌, ◌∙◌, ◌∷◌, ◌≡◌, ◌≤◌}
+use Rattle.std.proofs.Common.{replicate}
 use Rattle.image.specs.Laws.{BytesLieFromFirst, EachHasByte, NewIsZero}
-use Rattle.image.specs.Memory.{byte_at, bytes_at, first_address, has_bytes, with_bytes}
 
 pub get_first : (a b : List ℕ) (k : ℕ) → k < length a → slice_get (a ++ b) k ≡ slice_get a k
 get_first [] b k h = absurd (omega arith)

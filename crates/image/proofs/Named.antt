@@ -1,10 +1,9 @@
 -- Labels in a map by name, and in a list in the order of the text.
-use Rattle.std.proofs.Common.{◌≡◌, ℕ, Bool, true, false, cond, List, [], ◌∷◌, Some, String, refl}
-use Rattle.std.specs.Prelude.{find, option_map}
+use Rattle.image.proofs.Common.{[], Bool, cond, false, find, labels_of, List, option_map, place_of, refl, Some, true, ℕ, ◌∷◌, ◌≡◌}
+use Rattle.std.proofs.Common.{String}
 use Rattle.std.specs.Map.{lookup}
 use Rattle.std.specs.Str.{bytes_eq}
 use Rattle.std.specs.String.{string_bytes}
-use Rattle.image.specs.Lines.{labels_of, place_of}
 
 -- what a look-up by name finds is the address that the first label of that name has
 pub looked_up : {Z : Type 0} (entries : List (String Z × ℕ)) (name : List ℕ)

@@ -1,17 +1,11 @@
 -- The label that an address goes by, found by halving or by looking at each.
-use Rattle.std.proofs.Common.{◌≡◌, ℕ, zero, suc, ◌-◌, ◌<◌, ◌≤◌, inl, inr, Bool, true, false, cond, ◌&&◌, List, [], ◌∷◌, map, length, get_or, Option, Some, None, refl, sym, ◌∙◌, ap, subst, arith}
-use Rattle.std.specs.Prelude.{nat_le, nat_lt, slice_get, filter, String, string_bytes, option_map}
-use Rattle.std.specs.List.{find, list_all, AllWithin}
+use Rattle.image.proofs.Common.{[], AllWithin, ap, arith, Bool, cond, false, filter, first_address, first_greatest, get_or, get_or-map, in_image, inl, inr, Label, label_at, labels_of, length, List, list_all, map, nat_le, nat_lt, nat_tests, None, Option, option_map, place_of, refl, slice_get, slice_get-get_or, slice_get-map, Some, String, string_bytes, subst, suc, sym, Table, true, up_to, zero, ℕ, ◌&&◌, ◌-◌, ◌<◌, ◌∙◌, ◌∷◌, ◌≡◌, ◌≤◌}
+use Rattle.std.specs.List.{find}
 use Rattle.std.specs.Map.{values_of}
 use Rattle.std.proofs.Math.Nat.{eq-or-lt_of_le}
 use Rattle.std.proofs.lemmas.Bool.{cases_lt}
 use Rattle.std.proofs.lemmas.Map.Entries.{length-values_of}
-use Rattle.std.proofs.lemmas.Bool.Decides.{nat_tests}
-use Rattle.std.proofs.lemmas.List.{get_or-map}
-use Rattle.std.proofs.lemmas.Option.{slice_get-get_or, slice_get-map}
-use Rattle.image.specs.Memory.{first_address}
-use Rattle.image.specs.Lines.{Label, Table, place_of, labels_of, up_to, first_greatest, in_image, label_at}
-use Rattle.image.specs.Orders.{NeverFall}
+use Rattle.image.specs.Private.Orders.{NeverFall}
 use Rattle.image.proofs.Finding.{first_at, none_found, found_at}
 
 -- the index of the first that is greatest among the addresses that are not above one

@@ -1,14 +1,8 @@
 -- What is read of pages.
-use Rattle.std.proofs.Common.{◌≡◌, ℕ, zero, suc, ◌+◌, ◌-◌, ◌*◌, ◌/◌, ◌%◌, ◌^◌, ◌<◌, ◌≤◌, inl, inr, Bool, true, false, eqb, leb, ltb, List, [], ◌∷◌, length, take, drop, get_or, Option, Some, None, Ok, refl, ap, ◌∙◌, arith}
-use Rattle.std.proofs.lemmas.Bool.Decides.{nat_tests}
-use Rattle.std.proofs.lemmas.List.{take-replicate, drop-replicate}
-use Rattle.std.specs.Prelude.{slice_get, replicate}
-use Rattle.std.specs.declared.vec.Vec.{Vec}
-use Rattle.std.specs.declared.alloc.Global.{Global}
-use Rattle.image.specs.Memory.{byte_at, bytes_at, fault_at, little_endian, unless_fault}
+use Rattle.image.proofs.Common.{[], ap, AreWhole, arith, Bool, byte_at, bytes_at, drop, drop-replicate, eqb, false, fault_at, flat, get_or, Global, inl, inr, IsPage, leb, length, List, little_endian, ltb, nat_tests, None, Ok, Option, page_bytes, refl, replicate, slice_get, Some, suc, take, take-replicate, true, unless_fault, Vec, zero, ℕ, ◌%◌, ◌*◌, ◌+◌, ◌-◌, ◌/◌, ◌<◌, ◌^◌, ◌∙◌, ◌∷◌, ◌≡◌, ◌≤◌}
 use Rattle.image.specs.declared.fault.MemFault.{MemFault}
 use Rattle.image.specs.declared.fault.MemFault.TheVariants.{Outside}
-use Rattle.image.specs.Pages.{AreWhole, IsPage, flat, page_bytes, zeros}
+use Rattle.image.specs.Private.Pages.{zeros}
 use Rattle.image.proofs.Flat.{Pages, flat_length, none_past, one, part}
 use Rattle.image.proofs.Places.{Lies, place_of}
 
@@ -62,7 +56,7 @@ number_inside ps addr index offset n d w l h some fits a =
     (no_fault_in_page ps addr index offset n n w l h some fits a)
     ∙ ap (λ b. Ok (little_endian b)) reads
 
--- and the bytes of which it is made
+-- and the bytes that make it up
 pub bytes_inside : (ps : Pages) (addr index offset n : ℕ) (d : Vec ℕ Global) → AreWhole ps → Lies addr index offset → index < length ps
     → 1 ≤ n → offset + n ≤ 4096 → addr % n ≡ 0
     → unless_fault (fault_at (flat ps) n addr n) (bytes_at (flat ps) addr n)

@@ -1,16 +1,12 @@
 -- Rows that rise: how they are made, and what a search of them finds.
-use Rattle.std.proofs.Common.{◌≡◌, ◌≢◌, ℕ, zero, suc, ◌+◌, ◌%◌, ◌<◌, ◌≤◌, inl, inr, Bool, true, false, not, List, [], ◌∷◌, ◌++◌, length, get_or, Some, None, refl, ◌∙◌, ap, arith}
-use Rattle.std.specs.Prelude.{All, nat_le, nat_lt, ◌==◌}
-use Rattle.std.specs.List.{find, list_any}
-use Rattle.std.proofs.lemmas.Bool.Decides.{nat_tests}
+use Rattle.image.proofs.Common.{[], All, ap, arith, Bool, covers, end_of, false, first_address, get_or, inl, inr, length, line_in, List, list_any, nat_le, nat_lt, nat_tests, None, not, refl, Row, RowsRise, Some, start_of, suc, true, words_in, zero, ℕ, ◌%◌, ◌++◌, ◌+◌, ◌<◌, ◌==◌, ◌∙◌, ◌∷◌, ◌≡◌, ◌≢◌, ◌≤◌}
+use Rattle.std.specs.List.{find}
 use Rattle.std.proofs.lemmas.Bool.{cases_lt}
 use Rattle.std.proofs.Math.Nat.{eq-or-lt_of_le}
 use Rattle.std.proofs.lemmas.List.Elements.{All-append}
 use Rattle.std.proofs.lemmas.List.Folds.{list_any_none, list_any_at}
 use Rattle.std.proofs.lemmas.List.Kept.{AllPairs-cons}
 use Rattle.std.proofs.lemmas.List.Quantifiers.{all_pairs_push}
-use Rattle.image.specs.Memory.{first_address}
-use Rattle.image.specs.Lines.{Row, RowsRise, line_in, start_of, words_in, end_of, covers}
 use Rattle.image.proofs.Finding.{FoundAt, found_at, all_fail, first_at, none_found}
 
 -- No rows rise.

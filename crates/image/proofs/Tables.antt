@@ -1,15 +1,8 @@
 -- Pages that are made, copied, and written from a place on.
-use Rattle.std.proofs.Common.{◌≡◌, ℕ, zero, suc, ◌+◌, ◌-◌, ◌*◌, ◌/◌, ◌%◌, ◌<◌, ◌≤◌, inr, Bool, true, false, leb, List, [], ◌∷◌, ◌++◌, length, take, drop, get_or, Result, Ok, Err, refl, sym, ap, ◌∙◌, arith, length-append, length-drop, append_assoc, subst}
-use Rattle.std.specs.Prelude.{slice_set, OnErr}
+use Rattle.image.proofs.Common.{[], ap, append_assoc, AreMade, ArePages, AreWhole, arith, Bool, drop, drop-drop, Err, false, flat, get_or, Global, HaveBytes, inr, IsPage, LacksOne, leb, length, length-append, length-drop, length-set, length-take-le, length_push, List, nat_tests, NeedsPage, Ok, OnErr, page_bytes, put, refl, Result, slice_set, subst, suc, sym, take, true, Vec, zero, ℕ, ◌%◌, ◌*◌, ◌++◌, ◌+◌, ◌-◌, ◌/◌, ◌<◌, ◌∙◌, ◌∷◌, ◌≡◌, ◌≤◌}
 use Rattle.std.proofs.lemmas.Slice.{take-put_mid}
 use borrow.Rule.Slice.PartMut.{put_mid, post_of}
 use Rattle.std.proofs.Math.Seq.{take-append_seam, drop-append-add}
-use Rattle.std.proofs.lemmas.Bool.Decides.{nat_tests}
-use Rattle.std.proofs.lemmas.List.{drop-drop, length-set, length-take-le, length_push}
-use Rattle.std.specs.declared.vec.Vec.{Vec}
-use Rattle.std.specs.declared.alloc.Global.{Global}
-use Rattle.image.specs.Memory.{NeedsPage}
-use Rattle.image.specs.Pages.{AreMade, AreWhole, ArePages, HaveBytes, IsPage, LacksOne, flat, page_bytes, put}
 use Rattle.image.proofs.Flat.{Pages, each_push, flat_push, page_at, page_length, pages_set, part}
 use Rattle.image.proofs.Places.{Lies}
 use Rattle.image.proofs.Reading.{no_fault}

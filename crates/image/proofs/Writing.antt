@@ -1,12 +1,6 @@
 -- What is written to pages.
-use Rattle.std.proofs.Common.{◌≡◌, ℕ, suc, ◌+◌, ◌-◌, ◌*◌, ◌%◌, ◌<◌, ◌≤◌, inr, List, [], ◌∷◌, ◌++◌, length, take, drop, get_or, Some, None, Ok, Err, refl, sym, ap, ◌∙◌, arith, length-append, length-drop, subst}
-use Rattle.std.specs.Prelude.{slice_get, slice_set}
-use Rattle.std.proofs.lemmas.List.{length-set, set-get_or, length-take-le}
-use Rattle.std.specs.declared.vec.Vec.{Vec}
-use Rattle.std.specs.declared.alloc.Global.{Global}
-use Rattle.image.specs.Memory.{fault_at, memory_after, unless_fault, with_bytes, IsBlank, NeedsPage, WritesOrLacks}
+use Rattle.image.proofs.Common.{[], ap, ArePages, AreWhole, arith, drop, Err, fault_at, flat, get_or, Global, inr, IsBlank, IsPage, length, length-append, length-drop, length-set, length-take-le, List, memory_after, NeedsPage, None, Ok, page_bytes, put, refl, set-get_or, slice_get, slice_set, Some, subst, suc, sym, take, unless_fault, Vec, with_bytes, WritesOrLacks, ℕ, ◌%◌, ◌*◌, ◌++◌, ◌+◌, ◌-◌, ◌<◌, ◌∙◌, ◌∷◌, ◌≡◌, ◌≤◌}
 use Rattle.image.specs.declared.fault.MemFault.TheVariants.{Outside}
-use Rattle.image.specs.Pages.{AreWhole, ArePages, IsPage, flat, page_bytes, put}
 use Rattle.image.proofs.Flat.{Pages, flat_set, page_at, page_length, pages_set, zero_at}
 use Rattle.image.proofs.Places.{Lies}
 use Rattle.image.proofs.Reading.{byte_inside, no_fault_in_page}

@@ -23,7 +23,7 @@ abbrev pub TakesNoMemory : Type 0
 TakesNoMemory = (memory : List ℕ) (aligned address count : ℕ) →
     fault_at memory aligned address count ≡ Some NoMemory → ⊥
 
--- So many bytes at a multiple of that lie in one page.
+-- `count` bytes at a multiple of `count` lie in one page.
 abbrev pub LieInOnePage : ℕ → Type 0
 LieInOnePage count = (address k : ℕ) → address % count ≡ 0 → k < count →
     (address + k) / 4096 ≡ address / 4096

@@ -6,8 +6,5 @@ pub mod Memory
 pub mod Laws
 -- the line table: which line the code at an address came from, where a line's code starts, the label of an address
 pub mod Lines
--- ---- what only private clauses cite
--- what a line table keeps beside that, so that a label can be found by halving
-pub mod Orders
--- pages: a table of them as the list of the bytes of memory
-pub mod Pages
+-- what private clauses alone cite
+pub mod Private

@@ -6,7 +6,7 @@
 --
 -- Memory is made of pages of 4,096 bytes. Whether a page takes room yet is nothing that a reader of memory can tell: a
 -- byte that was never written is 0. A write may find no room for a page, and then nothing is written; that can only be a
--- page of which each byte is still 0.
+-- page whose bytes are all still 0.
 --
 -- A halfword is 2 bytes and a word is 4, little-endian: the byte at the lowest address has the least weight. A halfword
 -- lies at a multiple of 2, a word at a multiple of 4; that is looked at before anything else.
@@ -24,12 +24,12 @@ first_address = 65536
 abbrev pub byte_at : List ℕ → ℕ → Option ℕ
 byte_at memory address = if nat_lt address first_address then None else slice_get memory (address - first_address)
 
--- whether each of so many addresses from this one on has a byte
+-- whether each of `count` addresses from this one on has a byte
 abbrev pub has_bytes : List ℕ → ℕ → ℕ → Bool
 has_bytes memory address count = (count == 0)
     || (nat_le first_address address && nat_le (address + count) (first_address + length memory))
 
--- so many bytes from an address on, where each is there
+-- `count` bytes from an address on, where each is there
 abbrev pub bytes_at : List ℕ → ℕ → ℕ → List ℕ
 bytes_at memory address count = take count (drop (address - first_address) memory)
 
@@ -54,7 +54,7 @@ word_bytes word = word % 256 ∷ word / 256 % 256 ∷ word / 65536 % 256 ∷ wor
 word_bytes_of : word_bytes 0x02010000 ≡ 0 ∷ 0 ∷ 1 ∷ 2 ∷ []
 word_bytes_of = refl
 
--- Why an access of so many bytes is refused: its address is no multiple of what it has to be, or one of the bytes is
+-- Why an access of `count` bytes is refused: its address is no multiple of what it has to be, or one of the bytes is
 -- not there. The first of these, if there is one.
 abbrev pub fault_at : List ℕ → ℕ → ℕ → ℕ → Option MemFault
 fault_at memory aligned address count = if not (address % aligned == 0) then Some Misaligned
@@ -92,7 +92,7 @@ abbrev pub IsBlank : List ℕ → ℕ → Type 0
 IsBlank memory address = (other : ℕ) → other / 4096 ≡ address / 4096 → byte_at memory other ≡ Some 0
 
 -- Bytes could be written from an address on, but for the room of a page: there is no fault, and one of the bytes lies
--- in a page of which each byte is 0.
+-- in a page of zeros.
 pub record NeedsPage (aligned : ℕ) (memory : List ℕ) (address count : ℕ) : Type 0 where
   pub no_fault : fault_at memory aligned address count ≡ None
   pub at : ℕ

@@ -33,7 +33,7 @@ ghost use Rattle.image.specs.Lines.{
   up_to,
   RowsRise,
 };
-ghost use Rattle.image.specs.Orders.{NeverFall};
+ghost use Rattle.image.specs.Private.Orders.{NeverFall};
 
 use crate::FIRST_ADDRESS;
 use indexmap::IndexMap;
@@ -60,7 +60,7 @@ pub struct LineTable {
 
 impl Model for LineTable {
     ghost use Rattle.image.specs.Lines.{Table, labels_of};
-    ghost use Rattle.image.specs.Orders.{IsKept};
+    ghost use Rattle.image.specs.Private.Orders.{IsKept};
 
     ghost Value = { Table };
 

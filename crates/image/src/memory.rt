@@ -49,7 +49,7 @@ pub struct Memory {
 
 impl Model for Memory {
     ghost use Rattle.std.specs.Prelude.{List, ℕ};
-    ghost use Rattle.image.specs.Pages.{AreWhole, flat};
+    ghost use Rattle.image.specs.Private.Pages.{AreWhole, flat};
 
     ghost Value = { List ℕ };
 

@@ -12,14 +12,14 @@ ghost use Rattle.std.specs.Prelude.{
   OnOk,
   OnErr,
 };
-ghost use Rattle.image.specs.Pages.{IsPage, page_bytes, put};
+ghost use Rattle.image.specs.Private.Pages.{IsPage, page_bytes, put};
 
 use std::alloc::{AllocError, Global};
 
 /// How many bytes a page has.
 pub(crate) const PAGE: usize = 4096;
 
-// So many zeros.
+// `count` zeros.
 fn zeroed(alloc: Global, count: usize) -> Result<Vec<u8>, AllocError>
     ensures { IfOk result (λ bytes. bytes.items ≡ replicate count 0) }
 {

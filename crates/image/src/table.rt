@@ -15,7 +15,7 @@ ghost use Rattle.std.specs.Prelude.{
   OnOk,
   OnErr,
 };
-ghost use Rattle.image.specs.Pages.{
+ghost use Rattle.image.specs.Private.Pages.{
   AreBlank,
   AreMade,
   ArePages,
@@ -28,7 +28,7 @@ ghost use Rattle.image.specs.Pages.{
 use crate::page::{self, PAGE};
 use std::alloc::{AllocError, Global};
 
-/// So many pages, of which none is made.
+/// `count` pages, none of them made.
 pub(crate) fn blanks(alloc: Global, count: usize) -> Result<Vec<Vec<u8>>, AllocError>
     requires { count ≤ 4096 }
     ensures { IfOk result (λ pages. AreBlank pages.items count) }

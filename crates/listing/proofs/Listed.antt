@@ -16,7 +16,7 @@ joined bytes true address others part more (line, rest, entry, none, e) h =
     (line, more, entry, h, ap (λ p. p ++ more) same)
 joined bytes false address others part more e h = subst (AreEntries bytes others) (ap (λ p. p ++ more) (sym e)) h
 
--- the entries of so many words are made
+-- the entries of this many words are made
 pub record ArePartly (image : Image) (index : ℕ) (lines : List ℕ) : Type 0 where
   pub entries : (more : List ℕ)
       → AreEntries image.bytes (listed image.lines (words_from (first_address + 4 * index) (length image.bytes / 4 - index))) more

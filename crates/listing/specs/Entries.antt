@@ -9,7 +9,7 @@ use Rattle.image.specs.Memory.{bytes_at, first_address, little_endian}
 use Rattle.image.specs.declared.Image.{Image}
 use Rattle.rv32i.specs.Texts.{eight_digits, IsTextOf}
 
--- so many addresses from one on, 4 apart
+-- this many addresses from one on, 4 apart
 abbrev pub words_from : ℕ → ℕ → List ℕ
 words_from address zero = []
 words_from address (suc count) = address ∷ words_from (address + 4) count

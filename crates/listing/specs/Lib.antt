@@ -6,6 +6,5 @@ pub mod Entries
 pub mod Listing
 -- the labels of a text
 pub mod Labels
--- ---- what only private clauses cite
--- how the code makes a listing
-pub mod Steps
+-- what private clauses alone cite
+pub mod Private

@@ -1,4 +1,4 @@
-//! A text of assembly to the listing of its image.
+//! A text of assembly to the listing of its image, and to its labels.
 #![tactic(auto)]
 
 mod entries;

@@ -3,8 +3,8 @@ ghost use Rattle.std.specs.Prelude.{◌≡◌, string_bytes, Err, IfErr, IfOk, I
 ghost use Rattle.assembler.specs.Program.{whole_error};
 ghost use Rattle.listing.specs.Listing as spec;
 ghost use Rattle.listing.specs.Listing.{Faults, IsListed, Lists};
-ghost use Rattle.listing.specs.Steps as steps;
-ghost use Rattle.listing.specs.Steps.{Unlisted};
+ghost use Rattle.listing.specs.Private.Steps as steps;
+ghost use Rattle.listing.specs.Private.Steps.{Unlisted};
 
 use crate::MEMORY_SIZE;
 use crate::entries::entries_of;
@@ -17,7 +17,7 @@ use std::io::Write;
 
 /// Assembles a text for a memory of 1 MiB, and writes its listing: a line for each instruction, in the
 /// order of their addresses, with the address and the word in eight hexadecimal digits each and the text
-/// that stands for the instruction there.
+/// of the instruction there.
 ///
 /// - `Assembly`: something is wrong with the text, and nothing was written.
 /// - `Write`: the writer failed, and has the first bytes of the listing, but not all.

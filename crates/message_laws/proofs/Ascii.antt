@@ -1,6 +1,5 @@
 -- Texts whose bytes are below 128: numbers, and what is joined of such texts.
-use Rattle.message_laws.proofs.Common.{[], and_parts, are_ascii, arith, Bool, cond, decimal, digit_glyph, digits_onto, eqb, false, length, List, lt-ltb, ltb, pos, refl, signed_decimal, suc, true, zero, ℕ, ℤ, ◌%◌, ◌&&◌, ◌++◌, ◌+◌, ◌/◌, ◌<◌, ◌∷◌, ◌≡◌, ◌≤◌}
-use Rattle.std.proofs.Common.{negsuc}
+use Rattle.message_laws.proofs.Common.{[], and_parts, are_ascii, arith, Bool, cond, decimal, digit_glyph, digits_onto, eqb, false, length, List, lt-ltb, ltb, negsuc, pos, refl, signed_decimal, suc, true, zero, ℕ, ℤ, ◌%◌, ◌&&◌, ◌++◌, ◌+◌, ◌/◌, ◌<◌, ◌∷◌, ◌≡◌, ◌≤◌}
 use Rattle.std.specs.Fmt.{digits}
 
 pub both : (x y : Bool) → x ≡ true → y ≡ true → (x && y) ≡ true

@@ -1,15 +1,9 @@
 -- Each body that answers a request is written in fewer than 4,000,000,000 bytes.
-use Rattle.message_laws.proofs.Common.{[], All, All-append, All-cons, All-drop, All-map, All-nil, All-take, Answer, ap, arith, bind, Bool, codes, Command, cond, conditions_of, decimal, drop, entries_of, eqb, Err, false, Hart, if_keeps, IfOk, IfSome, IsPlain, IsPlainByte, label_address, label_at, length, length-append, length-map, length-take, line_of, List, ltb, map, message_of, nat_tests, None, Ok, Option, OutsideMemory, pos, range_with_len, refl, Refusal, ResponseBody, Result, slice_index, Some, SourceBreakpoint, suc, Table, take_while, true, zero, ℕ, ℤ, ◌*◌, ◌++◌, ◌+ℤ◌, ◌+◌, ◌-◌, ◌<◌, ◌^◌, ◌∷◌, ◌≡◌, ◌≤◌}
-use Rattle.std.proofs.Common.{min, not, take, reverse}
-use Rattle.std.specs.List.{prefix_len, sum_by}
-use Rattle.std.proofs.lemmas.List.{length-drop, length-reverse}
+use Rattle.message_laws.proofs.Common.{[], above_label, address_text, addresses, All, All-append, All-cons, All-drop, All-map, All-nil, All-take, Answer, ap, arith, bind, Bool, breaks_answer, codes, Command, cond, conditions_of, Debugged, decimal, drop, entries_of, eqb, Err, expression_of, false, file_name, fitting, frame_at, frames_given, Hart, HoldsWords, if_keeps, IfOk, IfSome, indices, IsPlain, IsPlainByte, label_address, label_at, length, length-append, length-drop, length-map, length-reverse, length-take, line_in_image, line_of, List, ltb, map, message_of, min, name_at, name_by, nat_tests, None, Numbers, Ok, Option, OutsideMemory, pos, prefix_len, range_with_len, refl, Refusal, ResponseBody, Result, reverse, set_in, set_variable, setting_of, SetVariableArguments, slice_index, Some, source_by, SourceBreakpoint, start as start_of_writing, suc, sum_by, Table, take, take_while, text_at, TooMuch, Tree, trimmed, true, View, with_targets, write_memory, WriteMemoryArguments, writing_of, zero, ℕ, ℤ, ◌*◌, ◌++◌, ◌+ℤ◌, ◌+◌, ◌-◌, ◌<◌, ◌^◌, ◌∷◌, ◌≡◌, ◌≤◌}
+use Rattle.std.proofs.Common.{not}
 use Rattle.std.proofs.lemmas.List.Sums.{sum_by-le}
-use Rattle.answers.specs.Answers.{breaks_answer}
-use Rattle.answers.specs.EditorLines.{line_in_image}
 use Rattle.answers.specs.Disassemble.{disassembled, entries_from, entry, entry_by, first_place, start_by as places_by, word_in, wrapped}
 use Rattle.answers.specs.Evaluate.{if_valued, unless_refused, valued}
-use Rattle.answers.specs.Expressions.{expression_of}
-use Rattle.answers.specs.Laws.{HoldsWords}
 use Rattle.answers.specs.Looking.{look_answer}
 use Rattle.answers.specs.Parts.{part}
 use Rattle.answers.specs.ReadMemory.{read, start_at, start_by}
@@ -17,17 +11,11 @@ use Rattle.answers.specs.Scopes.{body_by as scopes_by}
 use Rattle.answers.specs.SetBreakpoints as source
 use Rattle.answers.specs.SetFunctionBreakpoints as function
 use Rattle.answers.specs.SetInstructionBreakpoints as instruction
-use Rattle.answers.specs.SetVariable.{set_in, set_variable, setting_of}
-use Rattle.answers.specs.Spaces.{trimmed}
-use Rattle.answers.specs.StackTrace.{above_label, addresses, file_name, frame_at, frames_given, indices, name_at, name_by, source_by}
 use Rattle.answers.specs.Targets.{frame_of, frame_refusal, target_of}
-use Rattle.answers.specs.Texts.{text_at}
 use Rattle.answers.specs.Variables.{asked_of, body_by as variables_by, of_kind, variables_in}
-use Rattle.answers.specs.WriteMemory.{fitting, start as start_of_writing, write_memory, writing_of, written as written_by}
-use Rattle.answers.specs.declared.view.View.{View}
+use Rattle.answers.specs.WriteMemory.{written as written_by}
 use Rattle.answers.proofs.Ranges.{length_range}
 use Rattle.answers.proofs.Words.{all_bytes}
-use Rattle.expressions.specs.Trees.{Tree}
 use Rattle.expressions.specs.Values.{value_of}
 use Rattle.expressions.specs.declared.error.ExprFault.{ExprFault}
 use Rattle.image.specs.Memory.{first_address}
@@ -38,13 +26,10 @@ use Rattle.protocol.specs.declared.disassemble.DisassembleArguments.{Disassemble
 use Rattle.protocol.specs.declared.filter.Filter.{Filter}
 use Rattle.protocol.specs.declared.filter.Filter.TheVariants.{Indexed, Named}
 use Rattle.protocol.specs.declared.read_memory.ReadMemoryArguments.{ReadMemoryArguments}
-use Rattle.protocol.specs.declared.refusal.Refusal.TheVariants.{TooMuch}
 use Rattle.protocol.specs.declared.set_function_breakpoints.FunctionBreakpoint.{FunctionBreakpoint}
 use Rattle.protocol.specs.declared.set_instruction_breakpoints.InstructionBreakpoint.{InstructionBreakpoint}
-use Rattle.protocol.specs.declared.set_variable.SetVariableArguments.{SetVariableArguments}
 use Rattle.protocol.specs.declared.stack_trace.StackTraceArguments.{StackTraceArguments}
 use Rattle.protocol.specs.declared.variables.VariablesArguments.{VariablesArguments}
-use Rattle.protocol.specs.declared.write_memory.WriteMemoryArguments.{WriteMemoryArguments}
 use Rattle.message_parts.specs.EncodedBytes.{are_bytes}
 use Rattle.message_parts.specs.declared.disassemble.Instruction.{Instruction}
 use Rattle.message_parts.specs.declared.set_breakpoints.SourceBreakpoint.TheVariants as at_line
@@ -52,12 +37,9 @@ use Rattle.message_parts.specs.declared.set_instruction_breakpoints.InstructionB
 use Rattle.message_parts.specs.declared.stack_trace.StackFrame.{StackFrame}
 use Rattle.message_parts.specs.declared.variables.Variable.{Variable}
 use Rattle.replies.specs.declared.response.ResponseBody.TheVariants.{SetBreakpoints}
-use Rattle.rv32i.specs.Texts.{address_text}
-use Rattle.stepping.specs.Ticks.{Debugged}
 use Rattle.text_laws.specs.Lengths.{most_of_body, most_of_frame, most_of_instruction, most_of_instruction_breakpoint, most_of_source, most_of_source_breakpoint, most_of_variable, written_length}
 use Rattle.text_laws.specs.Labels.{IsNameWithin}
 use Rattle.text_laws.proofs.Sizes.{plain_texts_stand, texts_are_escaped}
-use Rattle.variables.specs.Numbers.{Numbers, with_targets}
 use Rattle.variables.specs.Registers.{counter, name_answer, numbers, register, registers}
 use Rattle.variables.specs.Stack.{has_word, stack_words, word}
 use Rattle.variables.specs.Values.{value_of as value_in}

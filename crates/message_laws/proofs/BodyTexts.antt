@@ -1,15 +1,8 @@
 -- The texts of each body that answers a request are UTF-8.
-use Rattle.message_laws.proofs.Common.{[], All, All-append, All-cons, All-drop, All-head, All-map, All-nil, All-tail, All-take, Answer, bind, Bool, codes, Command, cond, conditions_of, decimal, drop, entries_of, eqb, Err, false, Hart, if_keeps, IfOk, IfSome, IsUtf8, IsUtf8-are_ascii, Label, label_address, label_at, leb, length, line_of, List, list_all, ltb, map, None, Ok, Option, OutsideMemory, pos, range_with_len, refl, Refusal, ResponseBody, Result, slice_index, Some, SourceBreakpoint, suc, Table, take_while, true, zero, ℕ, ℤ, ◌*◌, ◌++◌, ◌+ℤ◌, ◌-◌, ◌<◌, ◌^◌, ◌∷◌, ◌≡◌}
-use Rattle.std.proofs.lemmas.Str.{IsUtf8-append}
-use Rattle.std.proofs.Common.{take, option_map}
-use Rattle.std.specs.Prelude.{filter, find}
+use Rattle.message_laws.proofs.Common.{[], above_label, address_text, addresses, All, All-append, All-cons, All-drop, All-head, All-map, All-nil, All-tail, All-take, Answer, bind, Bool, breaks_answer, codes, Command, cond, conditions_of, Debugged, decimal, drop, entries_of, eqb, Err, expression_of, false, filter, find, first_greatest, fitting, frame_at, frames_given, Hart, HoldsWords, if_keeps, IfOk, IfSome, in_image, indices, IsUtf8, IsUtf8-append, IsUtf8-are_ascii, Label, label_address, label_at, leb, length, line_in_image, line_of, List, list_all, ltb, map, name_at, name_by, None, Numbers, Ok, Option, option_map, OutsideMemory, place_of, pos, range_with_len, refl, Refusal, ResponseBody, Result, set_in, set_variable, setting_of, SetVariableArguments, slice_index, Some, source_by, SourceBreakpoint, start as start_of_writing, suc, Table, take, take_while, text_at, Tree, trimmed, true, up_to, View, with_targets, write_memory, WriteMemoryArguments, writing_of, zero, ℕ, ℤ, ◌*◌, ◌++◌, ◌+ℤ◌, ◌-◌, ◌<◌, ◌^◌, ◌∷◌, ◌≡◌}
 use Rattle.std.specs.Result.{result_ok}
-use Rattle.answers.specs.Answers.{breaks_answer}
-use Rattle.answers.specs.EditorLines.{line_in_image}
 use Rattle.answers.specs.Disassemble.{disassembled, entries_from, entry, entry_by, start as place_of_first, word_in, wrapped}
 use Rattle.answers.specs.Evaluate.{if_valued, unless_refused, valued}
-use Rattle.answers.specs.Expressions.{expression_of}
-use Rattle.answers.specs.Laws.{HoldsWords}
 use Rattle.answers.specs.Looking.{look_answer}
 use Rattle.answers.specs.Parts.{part}
 use Rattle.answers.specs.ReadMemory.{bytes_from, read, start as start_of_bytes}
@@ -17,20 +10,13 @@ use Rattle.answers.specs.Scopes.{body_by as scopes_by}
 use Rattle.answers.specs.SetBreakpoints as source
 use Rattle.answers.specs.SetFunctionBreakpoints as function
 use Rattle.answers.specs.SetInstructionBreakpoints as instruction
-use Rattle.answers.specs.SetVariable.{set_in, set_variable, setting_of}
-use Rattle.answers.specs.Spaces.{trimmed}
-use Rattle.answers.specs.StackTrace.{above_label, addresses, frame_at, frames_given, indices, name_at, name_by, source_by}
 use Rattle.answers.specs.Targets.{frame_of, frame_refusal, target_of}
-use Rattle.answers.specs.Texts.{text_at}
 use Rattle.answers.specs.Variables.{asked_of, body_by as variables_by, of_kind, variables_in}
-use Rattle.answers.specs.WriteMemory.{fitting, start as start_of_writing, write_memory, writing_of, written as written_by}
-use Rattle.answers.specs.declared.view.View.{View}
+use Rattle.answers.specs.WriteMemory.{written as written_by}
 use Rattle.answers.proofs.ProperLooks.{of_bytes, some_dropped}
 use Rattle.answers.proofs.Words.{all_bytes, small_at}
-use Rattle.expressions.specs.Trees.{Tree}
 use Rattle.expressions.specs.Values.{value_of}
 use Rattle.expressions.specs.declared.error.ExprFault.{ExprFault}
-use Rattle.image.specs.Lines.{first_greatest, in_image, place_of, up_to}
 use Rattle.image.specs.Memory.{bytes_at, fault_at, first_address, little_endian, unless_fault}
 use Rattle.image.specs.declared.fault.MemFault.{MemFault}
 use Rattle.numerals.specs.MemoryReferences.{address_of}
@@ -39,9 +25,7 @@ use Rattle.protocol.specs.declared.filter.Filter.{Filter}
 use Rattle.protocol.specs.declared.filter.Filter.TheVariants.{Indexed, Named}
 use Rattle.protocol.specs.declared.set_function_breakpoints.FunctionBreakpoint.{FunctionBreakpoint}
 use Rattle.protocol.specs.declared.set_instruction_breakpoints.InstructionBreakpoint.{InstructionBreakpoint}
-use Rattle.protocol.specs.declared.set_variable.SetVariableArguments.{SetVariableArguments}
 use Rattle.protocol.specs.declared.variables.VariablesArguments.{VariablesArguments}
-use Rattle.protocol.specs.declared.write_memory.WriteMemoryArguments.{WriteMemoryArguments}
 use Rattle.message_parts.specs.Disassemble.{instruction as entry_form}
 use Rattle.message_parts.specs.EncodedBytes.{are_bytes}
 use Rattle.message_parts.specs.Forms.{AreTexts, texts_if, texts_of, whole}
@@ -53,9 +37,6 @@ use Rattle.message_parts.specs.Variables.{variable}
 use Rattle.message_parts.specs.declared.variables.Variable.{Variable}
 use Rattle.replies.specs.Bodies.{texts_in}
 use Rattle.rv32i.specs.Names.{name_of}
-use Rattle.rv32i.specs.Texts.{address_text}
-use Rattle.stepping.specs.Ticks.{Debugged}
-use Rattle.variables.specs.Numbers.{Numbers, with_targets}
 use Rattle.variables.specs.Registers.{counter, name_answer, numbers, register, registers}
 use Rattle.variables.specs.Stack.{has_word, name_at as name_of_word, stack_words, word}
 use Rattle.variables.specs.Values.{value_of as value_in}

@@ -1,12 +1,8 @@
 -- A program has no more than 1,024 breakpoints of each kind, so no more than three times as many stop it at once; and
 -- what its logpoints say are short texts.
-use Rattle.message_laws.proofs.Common.{[], arith, Bool, Command, cond, false, Hart, if_keeps, IfSome, length, length-append, length-map, List, map, Mark, marked, marked_by, moved, None, Ok, Option, Program, refl, Result, Some, subst, suc, sym, true, Wanted, with_list, zero, ℕ, ◌++◌, ◌+◌, ◌∷◌, ◌≡◌, ◌≤◌}
+use Rattle.message_laws.proofs.Common.{[], arith, Bool, checked, Command, cond, cons_option, counted, Debugged, entry_checked, false, filter_map, fresh, Goal, Hart, ids_where, if_keeps, IfSome, is_hit, IsTick, length, length-append, length-map, List, Lists, log_at, log_of, looked_at, map, Mark, marked, marked_by, moved, moved_as, None, Ok, Option, Placed, Program, refl, reset, Result, Run, settled, slice_get, Some, stands, stops, subst, suc, sym, true, undone, undone_by, Wanted, with_list, zero, ℕ, ◌++◌, ◌+◌, ◌∷◌, ◌≡◌, ◌≤◌}
 use Rattle.std.proofs.Common.{filter}
-use Rattle.std.specs.Prelude.{filter_map, slice_get}
-use Rattle.std.specs.List.{cons_option}
 use Rattle.std.specs.declared.alloc.AllocError.{AllocError}
-use Rattle.breakpoints.specs.Stops.{Lists, Placed, checked, counted, fresh, ids_where, is_hit, log_at, log_of, reset, stands, stops}
-use Rattle.debuggee.specs.declared.run.Run.{Run}
 use Rattle.debuggee.specs.declared.run.Run.TheVariants as run
 use Rattle.protocol.specs.declared.command.Command.TheVariants as command
 use Rattle.rv32i.specs.declared.instr.Instr.{Instr}
@@ -14,8 +10,6 @@ use Rattle.rv32i.specs.declared.stepped.Stepped.{Stepped}
 use Rattle.rv32i.specs.declared.stepped.Stepped.TheVariants as stepped
 use Rattle.stepping.specs.Loading.{no_breakpoints}
 use Rattle.course.specs.Positions.{Position}
-use Rattle.stepping.specs.Ticks.{Debugged, IsTick, entry_checked, looked_at, moved_as, settled, undone, undone_by}
-use Rattle.stepping.specs.declared.goal.Goal.{Goal}
 use Rattle.stepping.specs.declared.goal.Goal.TheVariants as goal
 use Rattle.stepping.proofs.Cases.{by_tick}
 use Rattle.stepping.specs.declared.tick.Tick.{Tick}
@@ -135,11 +129,9 @@ reset_few lists h = record {
 -- ---- a tick
 
 settled_few : (s : Stepped) (instr : Option Instr) (before d : Debugged) → HasFew d.lists → HasFew (settled s instr before d).lists
-settled_few stepped.Retired instr before d h = checked_few d.hart.pc d.hart d.memory d.lists h
-settled_few (stepped.Printed number) instr before d h = checked_few d.hart.pc d.hart d.memory d.lists h
-settled_few stepped.Break instr before d h = checked_few d.hart.pc d.hart d.memory d.lists h
 settled_few (stepped.Exit code) instr before d h = none_named d.lists h
 settled_few (stepped.Trap cause) instr before d h = none_named d.lists h
+settled_few _ instr before d h = checked_few d.hart.pc d.hart d.memory d.lists h
 
 undone_few : (past : List Position) (d : Debugged) → HasFew d.lists → HasFew (undone_by past d).lists
 undone_few [] d h = h
@@ -154,10 +146,7 @@ looked_few goal.ReverseGo d h = record {
   logs = h.logs;
 }
 looked_few goal.Go d h = none_named d.lists h
-looked_few (goal.In granularity) d h = none_named d.lists h
-looked_few (goal.Over granularity) d h = none_named d.lists h
-looked_few (goal.Out granularity) d h = none_named d.lists h
-looked_few goal.Back d h = none_named d.lists h
+looked_few _ d h = none_named d.lists h
 
 tick_few : (before after : Debugged) (answer : Result Tick AllocError) → IsTick before answer after → HasFew before.lists
     → HasFew after.lists

@@ -1,37 +1,17 @@
 -- What holds of every message: it does where it holds of each body, refusal and event that there can be.
-use Rattle.message_laws.proofs.Common.{[], All, All-nil, All-push, answer_on, ap, assembled, AssemblyFailed, Beginning, Bool, Command, each_life, ended, entered, eqb, Event, false, first_run, Given, Happened, Hart, if_keeps, just_loaded, leb, left, length, Life, life_of, List, ltb, map, Mark, marked, moved, None, Ok, Option, Program, Reached, Refusal, ResponseBody, restarted, resumed, Said, said_next, Session, Some, stopped, subst, suc, sym, Terms, told, true, Wanted, Why, with_hart, with_list, written, zero, ℕ, ℤ, ◌&&◌, ◌++◌, ◌+◌, ◌∙◌, ◌∷◌, ◌≡◌}
-use Rattle.std.specs.Prelude.{not, take}
-use Rattle.std.proofs.lemmas.List.{map-id}
-use Rattle.answers.specs.SetVariable.{set_variable}
-use Rattle.answers.specs.WriteMemory.{write_memory}
-use Rattle.answers.specs.declared.set_variable.Setting.{Setting}
-use Rattle.answers.specs.declared.write_memory.Writing.{Writing}
-use Rattle.assembler.specs.Placed.{error_of}
-use Rattle.assembler.specs.declared.error.AsmError.{AsmError}
-use Rattle.debuggee.specs.Programs.{is_ended, is_running, next_tick, on_program, why_marked}
+use Rattle.message_laws.proofs.Common.{[], accepted_on, agreed_on, All, All-nil, All-push, answer_on, Answering, ap, AsmError, assembled, AssemblyFailed, Beginning, Bool, Command, Done, each_life, Effect, ended, entered, eqb, error_of, error_text, Event as IsEvent, exit_events, false, FileUnreadable, first_run, Given, Goal, Happened, Hart, histories, hung_on, if_keeps, is_ended, is_running, just_loaded, leb, left, length, Life, life_of, List, log_event, ltb, map, map-id, Mark, marked, Message, moved, name_of, next_tick, None, not, Numbers, Ok, on_program, opened_on, Option, Orderly, OrderlyIn, OrderlyOf, Outcome as Answered, output_event, performed_on, Program, reached, Reached, referred_on, Refusal, Refused, replied_on, Response as IsResponse, ResponseBody, restarted, resumed, Run, Said, said_next, said_on, seen_in, Session, set_variable, Setting, SetVariableArguments, Some, stop_event, stopped, subst, suc, sym, Terms, told, true, Wanted, Why, why_marked, with_hart, with_list, write_memory, WriteMemoryArguments, Writing, written, zero, ℕ, ℤ, ◌&&◌, ◌++◌, ◌+◌, ◌∙◌, ◌∷◌, ◌≡◌}
+use Rattle.session.specs.declared.event.Event.{Event}
+use Rattle.std.specs.Prelude.{take}
 use Rattle.debuggee.specs.declared.run.Mark.TheVariants as mark
-use Rattle.debuggee.specs.declared.run.Run.{Run}
 use Rattle.debuggee.specs.declared.run.Run.TheVariants as run
 use Rattle.debuggee.specs.declared.run.Why.TheVariants as why
 use Rattle.handlers.specs.ConfigurationDone.{run_events}
 use Rattle.handlers.specs.Demands.{run_of}
 use Rattle.handlers.specs.Disconnect.{departed, is_to_end, is_to_stand}
-use Rattle.handlers.specs.Given.{Answering}
-use Rattle.handlers.specs.Launch.{error_text}
-use Rattle.handlers.specs.Looking.{seen_in}
-use Rattle.handlers.specs.Telling.{exit_events, log_event, output_event, stop_event}
-use Rattle.protocol.specs.Commands.{name_of}
 use Rattle.protocol.specs.declared.command.Command.TheVariants as command
 use Rattle.protocol.specs.declared.launch.LaunchArguments.{LaunchArguments}
-use Rattle.protocol.specs.declared.refusal.Refusal.TheVariants.{FileUnreadable}
-use Rattle.protocol.specs.declared.set_variable.SetVariableArguments.{SetVariableArguments}
-use Rattle.protocol.specs.declared.write_memory.WriteMemoryArguments.{WriteMemoryArguments}
 use Rattle.replies.specs.declared.event.Event.{Event as Told}
 use Rattle.replies.specs.declared.event.Event.TheVariants as event
-use Rattle.replies.specs.declared.message.Message.{Message}
-use Rattle.replies.specs.declared.message.Message.TheVariants.{Response as IsResponse, Event as IsEvent}
-use Rattle.replies.specs.declared.response.Outcome.{Outcome as Answered}
-use Rattle.replies.specs.declared.response.Outcome.TheVariants.{Done, Refused}
 use Rattle.replies.specs.declared.response.ResponseBody.TheVariants as body
 use Rattle.session.specs.Acts.{Act, Now, Seen, Open, Close, Accept, Agree, Become, Refer, Reply, Tell, HangUp, Take, given_of, read_on}
 use Rattle.queues.specs.Arrivals.{Arrivals, all_joined, asks_of, name_asked}
@@ -41,7 +21,7 @@ use Rattle.session.specs.Outcomes.{Outcome, answering, answers_next, closing, ne
 use Rattle.session.specs.Phases.{is_active}
 use Rattle.handlers.specs.Refusals.{response_to}
 use Rattle.session.specs.Outcomes.{answer_to}
-use Rattle.session.specs.Sessions.{Effect, accepted_on, agreed_on, histories, hung_on, opened_on, performed_on, referred_on, replied_on, said_on, start}
+use Rattle.session.specs.Sessions.{start}
 use Rattle.session.specs.Slices.{Beat, beat, beat_by, beat_of, concludes, exits, goes, goes_unless, halts, is_at_limit, is_runnable_by, logged, moves_by, output_events, telling, tells}
 use Rattle.session.specs.declared.event.Event.TheVariants.{Connect, Recv, Turn, Slice, Hold, Sent, DropConnection}
 use Rattle.session.specs.declared.event.SliceEnd.{SliceEnd}
@@ -52,14 +32,11 @@ use Rattle.queues.specs.declared.pending.Pending.{Pending}
 use Rattle.session.specs.declared.state.TheConstants.{FULL, LAST_CONNECTION, MOST_PENDING, MOST_PIECE}
 use Rattle.session.proofs.ByMove.{by_move}
 use Rattle.session.proofs.BySuccess.{BySuccess, agreed_body, by_success, step_body}
-use Rattle.session.proofs.Orderly.{Orderly, OrderlyIn, OrderlyOf}
-use Rattle.session.proofs.Reaching.{reached}
 use Rattle.session.proofs.Serving.{of_answer}
 use Rattle.session_laws.proofs.Asked.{asks_that_wait}
 use Rattle.session_laws.proofs.ByForms.{on}
 use Rattle.session_laws.proofs.Joining.{all_joined_as}
 use Rattle.session_laws.proofs.Turning.{KeptByEvents, StaysOrderly, beat_keeps, begins_so, outcome_keeps}
-use Rattle.stepping.specs.declared.goal.Goal.{Goal}
 use Rattle.stepping.specs.declared.tick.Outcome.{Outcome as CameTo}
 use Rattle.stepping.specs.declared.tick.Outcome.TheVariants.{Went, Stopped, Ended}
 use Rattle.stepping.specs.declared.tick.Reason.TheVariants as met
@@ -67,7 +44,6 @@ use Rattle.stepping.specs.declared.tick.Tick.{Tick}
 use Rattle.variables.specs.Laws.{Call}
 use Rattle.message_laws.proofs.Breaks.{AreShort}
 use Rattle.message_laws.proofs.Named.{IsShortText}
-use Rattle.variables.specs.Numbers.{Numbers}
 
 -- What is to hold of each message: of the body of a success, of a refusal with its text, and of an event. And with it, of
 -- the program that is debugged, of the numbers of the breakpoints that stopped it, of requests, and of the names that
@@ -169,7 +145,6 @@ pub record OfAnswer (q : Claim) (a : Answering) : Type 0 where
 abbrev pub OfLife : Claim → Life → Type 0
 OfLife q life = All (λ (m : Said). OfMessage q m.message) life.said
 
--- and of a session
 pub record OfSession (q : Claim) (s : Session) : Type 0 where
   pub program : OfProgram q s.now.debuggee.program
   pub asks : OfAsks q (asks_that_wait s.now.arrivals.pending)

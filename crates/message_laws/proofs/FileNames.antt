@@ -1,9 +1,5 @@
 -- The last part of a path is UTF-8 where the path is.
-use Rattle.message_laws.proofs.Common.{[], ap, arith, Bool, drop, eqb, false, get_or, IsUtf8, length, length-append, List, nat_tests, refl, subst, suc, sym, true, zero, ℕ, ◌++◌, ◌+◌, ◌<◌, ◌∙◌, ◌∷◌, ◌≡◌}
-use Rattle.std.proofs.Common.{◌⊎◌, inl, inr}
-use Rattle.std.proofs.lemmas.Bool.{eqb-true}
-use Rattle.std.proofs.lemmas.Str.{IsUtf8-drop, IsCharBoundary-after_ascii}
-use Rattle.answers.specs.StackTrace.{file_name}
+use Rattle.message_laws.proofs.Common.{[], ap, arith, Bool, drop, eqb, eqb-true, false, file_name, get_or, inl, inr, IsCharBoundary-after_ascii, IsUtf8, IsUtf8-drop, length, length-append, List, nat_tests, refl, subst, suc, sym, true, zero, ℕ, ◌++◌, ◌+◌, ◌<◌, ◌∙◌, ◌∷◌, ◌≡◌, ◌⊎◌}
 use Rattle.answers.proofs.FileNames.{HasNoSlash, after_slash, whole}
 
 -- a path with its last slash

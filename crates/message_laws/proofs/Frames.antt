@@ -1,6 +1,5 @@
 -- The bodies of frames have no more bytes than a body may have.
-use Rattle.message_laws.proofs.Common.{[], All, All-cons, All-nil, arith, Bool, cond, drop, Err, false, IfOk, leb, length, length-take, List, ltb, nat_tests, None, Ok, Option, refl, Result, Some, suc, true, zero, ℕ, ◌++◌, ◌+◌, ◌-◌, ◌∷◌, ◌≡◌, ◌≤◌}
-use Rattle.std.proofs.Common.{take}
+use Rattle.message_laws.proofs.Common.{[], All, All-cons, All-nil, arith, Bool, cond, drop, Err, false, IfOk, leb, length, length-take, List, ltb, nat_tests, None, Ok, Option, refl, Result, Some, suc, take, true, zero, ℕ, ◌++◌, ◌+◌, ◌-◌, ◌∷◌, ◌≡◌, ◌≤◌}
 use Rattle.byte_strings.specs.Blanks.{trimmed}
 use Rattle.framing.specs.Headers.{Field, length_fields}
 use Rattle.framing.specs.Reading.{Reading, Tail, content_length, fields_in, length_among, length_by, length_or_fault, lines_of, number_in, reading_by, reading_of, reading_within, size_of, start_at, start_by, start_of, with_body}

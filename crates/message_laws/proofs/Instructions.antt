@@ -1,12 +1,9 @@
 -- The disassembly of a word is ASCII, and has at most 300 bytes.
-use Rattle.message_laws.proofs.Common.{[], and_parts, are_ascii, arith, Bool, codes, cond, decimal, eqb, false, get_or, leb, length, length-append, List, list_all, lt-ltb, ltb, nat_tests, refl, signed_decimal, subst, suc, sym, true, zero, ℕ, ◌%◌, ◌++◌, ◌+◌, ◌/◌, ◌<◌, ◌^◌, ◌∷◌, ◌≡◌, ◌≤◌}
+use Rattle.message_laws.proofs.Common.{[], address_text, and_parts, are_ascii, arith, Bool, Coded, codes, cond, decimal, digits, eqb, false, get_or, HasText, hex_digit, Illegal, is_plain_fence, IsTextOf, leb, length, length-append, letter, List, list_all, lt-ltb, ltb, nat_tests, refl, set_text, signed_decimal, subst, suc, sym, text_at, text_at-is, true, with_two, word_text, zero, ℕ, ◌%◌, ◌++◌, ◌+◌, ◌/◌, ◌<◌, ◌^◌, ◌∷◌, ◌≡◌, ◌≤◌}
 use Rattle.std.specs.Bool.{MatchBool}
-use Rattle.std.specs.Fmt.{digits}
-use Rattle.answers.specs.Texts.{text_at, text_at-is}
 use Rattle.rv32i.specs.Encoding.{Encodes}
 use Rattle.rv32i.specs.Machine.{signed, sum}
 use Rattle.rv32i.specs.Names.{name_of, names}
-use Rattle.rv32i.specs.Texts.{HasText, IsTextOf, Coded, Illegal, address_text, hex_digit, is_plain_fence, letter, set_text, with_two, word_text}
 use Rattle.rv32i.specs.declared.instr.Instr.{Instr}
 use Rattle.rv32i.specs.declared.instr.Instr.TheVariants.{Lui, Auipc, Jal, Jalr, Beq, Bne, Blt, Bge, Bltu, Bgeu, Lb, Lh, Lw, Lbu, Lhu, Sb, Sh, Sw, Addi, Slti, Sltiu, Xori, Ori, Andi, Slli, Srli, Srai, Add, Sub, Sll, Slt, Sltu, Xor, Srl, Sra, Or, And, Fence, Ecall, Ebreak}
 use Rattle.message_laws.proofs.Ascii.{append_ascii, both, decimal_ascii, decimal_few, if_either, hexadecimal_ascii, hexadecimal_few, signed_ascii, signed_few}
@@ -41,7 +38,7 @@ no_more n = omega arith
 abbrev the : (text : List ℕ) → IsAsciiText text → Text
 the text h = record { text = text; ascii = h; most = length text; few = no_more (length text) }
 
--- one of at most so many bytes
+-- one of at most this many bytes
 abbrev within : (text : List ℕ) (most : ℕ) → IsAsciiText text → length text ≤ most → Text
 within text most h few = record { text = text; ascii = h; most = most; few = few }
 

@@ -1,29 +1,16 @@
 -- Each message is written in fewer bytes than a mirror reads.
-use Rattle.message_laws.proofs.Common.{answer_on, arith, AssemblyFailed, Beginning, codes, Command, decimal, get_or, Given, Happened, IfOk, length, length-append, life_of, List, Ok, Program, Reached, Refusal, ResponseBody, Result, Said, signed_decimal, Some, subst, Terms, Why, ℕ, ℤ, ◌++◌, ◌+◌, ◌<◌, ◌≡◌, ◌≤◌}
-use Rattle.answers.specs.declared.set_variable.Setting.{Setting}
-use Rattle.answers.specs.declared.write_memory.Writing.{Writing}
-use Rattle.assembler.specs.declared.error.AsmError.{AsmError}
+use Rattle.message_laws.proofs.Common.{answer_on, arith, AsmError, AssemblyFailed, Beginning, codes, Command, decimal, Done, error_text, Event as IsEvent, get_or, Given, Happened, HasPath, IfOk, kind_name, length, length-append, life_of, List, log_event, Message, MessagesAreShort, Ok, Orderly, Outcome, output_event, Program, Reached, Refusal, Refused, Response as IsResponse, ResponseBody, Result, Said, seen_in, Setting, signed_decimal, Some, stop_event, subst, Terms, text_of, view_of, Why, Writing, ℕ, ℤ, ◌++◌, ◌+◌, ◌<◌, ◌≡◌, ◌≤◌}
 use Rattle.assembler.specs.declared.error.AsmErrorKind.{AsmErrorKind}
 use Rattle.assembler.specs.declared.error.AsmErrorKind.TheVariants as kind
 use Rattle.debuggee.specs.declared.run.Why.TheVariants as why
-use Rattle.handlers.specs.Launch.{error_text, kind_name}
-use Rattle.handlers.specs.Looking.{seen_in}
-use Rattle.handlers.specs.Telling.{log_event, output_event, stop_event, text_of}
 use Rattle.rv32i.specs.Causes.{cause_text}
-use Rattle.handlers.specs.Views.{view_of}
 use Rattle.replies.specs.Messages.{text_of as text_said}
-use Rattle.replies.specs.declared.message.Message.{Message}
-use Rattle.replies.specs.declared.message.Message.TheVariants.{Response as IsResponse, Event as IsEvent}
-use Rattle.replies.specs.declared.response.Outcome.{Outcome}
-use Rattle.replies.specs.declared.response.Outcome.TheVariants.{Done, Refused}
 use Rattle.rv32i.specs.declared.stepped.Cause.{Cause}
 use Rattle.rv32i.specs.declared.stepped.Cause.TheVariants as cause
-use Rattle.session.proofs.Orderly.{Orderly}
 use Rattle.session_laws.proofs.Proper.{answers_are_proper}
 use Rattle.stepping.specs.declared.tick.Reason.TheVariants as met
 use Rattle.text_laws.specs.Lengths.{most_bytes, most_of_event, most_of_outcome, written_length_if}
 use Rattle.text_laws.proofs.Lengths.{texts_are_bounded}
-use Rattle.message_laws.specs.Messages.{HasPath, MessagesAreShort}
 use Rattle.message_laws.proofs.Ascii.{decimal_few, signed_few}
 use Rattle.message_laws.proofs.BodyLengths.{IsShortBody, breaks_are_short, looks_are_short, settings_are_short, writings_are_short, written_few}
 use Rattle.message_laws.proofs.Breaks.{logs_are_short}
@@ -51,24 +38,11 @@ lengths = record {
 
 cause_few : (c : Cause) → length (cause_text c) ≤ 40
 cause_few cause.FetchOutside = omega arith
-cause_few cause.Illegal = omega arith
-cause_few cause.JumpMisaligned = omega arith
-cause_few cause.LoadMisaligned = omega arith
-cause_few cause.LoadOutside = omega arith
-cause_few cause.StoreMisaligned = omega arith
-cause_few cause.StoreOutside = omega arith
-cause_few cause.UnknownCall = omega arith
+cause_few _ = omega arith
 
 kind_few : (k : AsmErrorKind) → length (kind_name k) ≤ 20
 kind_few kind.NotUtf8 = omega arith
-kind_few kind.Syntax = omega arith
-kind_few kind.UnknownInstruction = omega arith
-kind_few kind.BadOperand = omega arith
-kind_few kind.OutOfRange = omega arith
-kind_few kind.TwiceDefined = omega arith
-kind_few kind.Undefined = omega arith
-kind_few kind.TooLarge = omega arith
-kind_few kind.NoMemory = omega arith
+kind_few _ = omega arith
 
 error_few : (error : AsmError) → length (error_text error) ≤ 100
 error_few error =

@@ -1,12 +1,8 @@
 -- The list that a request sets is short, and so are the texts that its logpoints say.
-use Rattle.message_laws.proofs.Common.{[], All, All-head, All-tail, Answer, answer_on, arith, bind, Bool, Command, Conditions, conditions_of, Err, false, followed_by, Given, if_keeps, IfOk, IfSome, length, List, list_of, ltb, next_after, None, Ok, Option, Program, Result, Some, SourceBreakpoint, subst, Table, Terms, true, Wanted, ℕ, ◌+◌, ◌∷◌, ◌≡◌, ◌≤◌}
-use Rattle.answers.specs.Answers.{breaks_answer}
-use Rattle.answers.specs.EditorLines.{line_in_image}
+use Rattle.message_laws.proofs.Common.{[], All, All-head, All-tail, Answer, answer_on, arith, bind, Bool, breaks_answer, Command, Conditions, conditions_of, Err, false, followed_by, Given, if_keeps, IfOk, IfSome, length, line_in_image, List, list_of, ltb, next_after, None, Ok, Option, Program, Result, Some, SourceBreakpoint, subst, Table, Terms, true, View, view_of, Wanted, ℕ, ◌+◌, ◌∷◌, ◌≡◌, ◌≤◌}
 use Rattle.answers.specs.SetBreakpoints as source
 use Rattle.answers.specs.SetFunctionBreakpoints as function
 use Rattle.answers.specs.SetInstructionBreakpoints as instruction
-use Rattle.answers.specs.declared.view.View.{View}
-use Rattle.handlers.specs.Views.{view_of}
 use Rattle.protocol.specs.declared.command.Command.TheVariants as command
 use Rattle.message_laws.proofs.Breaks.{AskShort}
 use Rattle.message_laws.proofs.Named.{IsShortText}

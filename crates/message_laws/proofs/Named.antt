@@ -1,9 +1,6 @@
 -- A program whose path is a text, and whose labels are: whatever is done to it.
-use Rattle.message_laws.proofs.Common.{All, All-weaker, arith, assembled, Bool, Command, IsTextWithin, just_loaded, Label, length, List, Mark, marked, marked_by, None, Program, refl, subst, sym, Wanted, with_list, ℕ, ◌≡◌, ◌≤◌}
-use Rattle.assembler.specs.Placed.{error_of}
-use Rattle.debuggee.specs.declared.run.Run.{Run}
+use Rattle.message_laws.proofs.Common.{All, All-weaker, arith, assembled, Bool, Command, error_of, Image, IsTextWithin, just_loaded, Label, length, List, Mark, marked, marked_by, None, Program, refl, Run, subst, sym, Wanted, with_list, ℕ, ◌≡◌, ◌≤◌}
 use Rattle.debuggee.specs.declared.run.Run.TheVariants as run
-use Rattle.image.specs.declared.Image.{Image}
 use Rattle.protocol.specs.declared.command.Command.TheVariants as command
 use Rattle.text_laws.specs.Labels.{IsNameWithin}
 use Rattle.text_laws.proofs.Labels.{labels_are_texts, programs_are_short}

@@ -1,8 +1,6 @@
 -- Each message has a number that the protocol can have.
-use Rattle.message_laws.proofs.Common.{All, All-nil, All-push, and_parts, arith, Beginning, each_life, Happened, Life, life_of, List, nat_tests, Reached, refl, Said, said_next, Session, true, ℕ, ◌≡◌, ◌≤◌}
-use Rattle.std.specs.Prelude.{nat_le}
+use Rattle.message_laws.proofs.Common.{All, All-nil, All-push, and_parts, arith, Beginning, each_life, Happened, Life, life_of, List, nat_le, nat_tests, Reached, reached_by_acts, refl, Said, said_next, Session, true, ℕ, ◌≡◌, ◌≤◌}
 use Rattle.session_laws.proofs.ByForms.{KeptByAnswers, KeptByOthers, by_forms}
-use Rattle.session.proofs.Reaching.{reached_by_acts}
 use Rattle.session.specs.Limits.{are_limits}
 use Rattle.session.specs.declared.limits.Limits.{Limits}
 

@@ -1,12 +1,6 @@
 -- What is said of a breakpoint that cannot be set.
-use Rattle.message_laws.proofs.Common.{[], All, All-cons, All-nil, ap, arith, Bool, codes, Conditions, conditions_of, entries_of, Err, false, followed_by, IsUtf8, IsUtf8-are_ascii, leb, length, List, list_of, ltb, message_of, nat_tests, next_after, None, Ok, Option, refl, Result, Some, SourceBreakpoint, suc, true, Wanted, ℕ, ◌∷◌, ◌≡◌, ◌≤◌}
-use Rattle.std.specs.Prelude.{◌||◌}
-use Rattle.std.specs.List.{list_any}
-use Rattle.answers.specs.Conditions.{both, condition_of, hit_of, if_expression, if_positive}
-use Rattle.answers.specs.Expressions.{expression_of}
+use Rattle.message_laws.proofs.Common.{[], All, All-cons, All-nil, ap, arith, Bool, both, codes, condition_of, Conditions, conditions_of, entries_of, Err, expression_of, false, followed_by, hit_of, if_expression, if_positive, IsUtf8, IsUtf8-are_ascii, leb, length, List, list_any, list_of, ltb, message_of, nat_tests, next_after, None, Ok, Option, refl, Result, said, Some, SourceBreakpoint, suc, Tree, true, Wanted, ℕ, ◌||◌, ◌∷◌, ◌≡◌, ◌≤◌}
 use Rattle.answers.specs.SetBreakpoints.{is_long, is_too_much}
-use Rattle.answers.specs.Spaces.{said}
-use Rattle.expressions.specs.Trees.{Tree}
 use Rattle.numerals.specs.Numerals.{numeral}
 use Rattle.numerals.specs.declared.NumeralError.{NumeralError}
 use Rattle.message_laws.proofs.Ascii.{if_either}

@@ -1,8 +1,5 @@
 -- A program whose path, labels and logpoints are short texts, and whose lists are short: whatever is done to it.
-use Rattle.message_laws.proofs.Common.{assembled, Bool, Command, ended, entered, false, first_run, Hart, just_loaded, left, length, List, Mark, marked, moved, None, Option, Program, refl, restarted, resumed, stopped, told, Wanted, Why, with_hart, with_list, written, ℕ, ℤ, ◌≡◌, ◌≤◌}
-use Rattle.assembler.specs.Placed.{error_of}
-use Rattle.image.specs.declared.Image.{Image}
-use Rattle.stepping.specs.declared.goal.Goal.{Goal}
+use Rattle.message_laws.proofs.Common.{assembled, Bool, Command, ended, entered, error_of, false, first_run, Goal, Hart, Image, just_loaded, left, length, List, Mark, marked, moved, None, Option, Program, refl, restarted, resumed, stopped, told, Wanted, Why, with_hart, with_list, written, ℕ, ℤ, ◌≡◌, ◌≤◌}
 use Rattle.message_laws.proofs.Breaks.{AskShort, HasFew, HasFewBreaks, entered_few, listed_few, marked_few, moved_few, no_breaks, none_named, reset_few}
 use Rattle.message_laws.proofs.Named.{IsNamed, IsShortText, listed_named, loaded_named, marked_named, named_as}
 

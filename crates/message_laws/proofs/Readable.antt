@@ -1,6 +1,5 @@
 -- Each message can be read.
-use Rattle.message_laws.proofs.Common.{Beginning, Happened, List, Reached}
-use Rattle.message_laws.specs.Messages.{HasPath, MessagesAreReadable}
+use Rattle.message_laws.proofs.Common.{Beginning, Happened, HasPath, List, MessagesAreReadable, Reached}
 use Rattle.message_laws.proofs.Lengths.{messages_are_short}
 use Rattle.message_laws.proofs.Texts.{texts_are_utf8}
 

@@ -1,33 +1,16 @@
 -- The texts of each message are UTF-8.
-use Rattle.message_laws.proofs.Common.{[], All-weaker, answer_on, are_ascii, assembled, Beginning, codes, Command, decimal, false, Given, Happened, IfOk, IfSome, IsUtf8, IsUtf8-are_ascii, just_loaded, Label, length, life_of, List, None, Ok, Option, Program, Reached, refl, Refusal, ResponseBody, Result, Said, signed_decimal, Some, subst, Terms, true, Why, ℕ, ℤ, ◌++◌, ◌+◌, ◌∷◌, ◌≡◌, ◌≤◌}
-use Rattle.std.proofs.lemmas.Str.{IsUtf8-append}
-use Rattle.answers.specs.Laws.{HoldsWords}
-use Rattle.answers.specs.declared.set_variable.Setting.{Setting}
-use Rattle.answers.specs.declared.write_memory.Writing.{Writing}
-use Rattle.assembler.specs.declared.error.AsmError.{AsmError}
+use Rattle.message_laws.proofs.Common.{[], All-weaker, answer_on, are_ascii, AsmError, assembled, Beginning, codes, Command, decimal, Done, error_text, Event as IsEvent, false, Given, Happened, HasPath, HoldsWords, IfOk, IfSome, Image, IsUtf8, IsUtf8-append, IsUtf8-are_ascii, just_loaded, kind_name, Label, length, life_of, List, log_event, Message, name_of, None, Ok, Option, Orderly, Outcome, output_event, Program, Reached, refl, Refusal, Refused, Response as IsResponse, ResponseBody, Result, Said, seen_in, Setting, signed_decimal, Some, stop_event, subst, Terms, text_of, TextsAreUtf8, true, view_of, Why, Writing, ℕ, ℤ, ◌++◌, ◌+◌, ◌∷◌, ◌≡◌, ◌≤◌}
 use Rattle.assembler.specs.declared.error.AsmErrorKind.{AsmErrorKind}
 use Rattle.assembler.specs.declared.error.AsmErrorKind.TheVariants as kind
 use Rattle.debuggee.specs.declared.run.Why.TheVariants as why
-use Rattle.handlers.specs.Launch.{error_text, kind_name}
-use Rattle.handlers.specs.Looking.{seen_in}
-use Rattle.handlers.specs.Telling.{log_event, output_event, stop_event, text_of}
 use Rattle.rv32i.specs.Causes.{cause_text}
-use Rattle.handlers.specs.Views.{view_of}
-use Rattle.image.specs.declared.Image.{Image}
-use Rattle.protocol.specs.Commands.{name_of}
 use Rattle.message_parts.specs.Forms.{AreTexts, text, texts_if, texts_of, whole}
 use Rattle.replies.specs.Events.{event_texts}
 use Rattle.replies.specs.Laws.{HasOutcomeTexts, HasTexts}
-use Rattle.replies.specs.declared.message.Message.{Message}
-use Rattle.replies.specs.declared.message.Message.TheVariants.{Response as IsResponse, Event as IsEvent}
-use Rattle.replies.specs.declared.response.Outcome.{Outcome}
-use Rattle.replies.specs.declared.response.Outcome.TheVariants.{Done, Refused}
 use Rattle.rv32i.specs.declared.stepped.Cause.{Cause}
 use Rattle.rv32i.specs.declared.stepped.Cause.TheVariants as cause
 use Rattle.session.specs.Config.{HasImage, first_program}
-use Rattle.session.proofs.Orderly.{Orderly}
 use Rattle.stepping.specs.declared.tick.Reason.TheVariants as met
-use Rattle.message_laws.specs.Messages.{HasPath, TextsAreUtf8}
 use Rattle.message_laws.proofs.Ascii.{append_ascii, decimal_ascii, signed_ascii}
 use Rattle.message_laws.proofs.BodyTexts.{HasBodyTexts, HasLabels, breaks_have_texts, looks_have_texts, settings_have_texts, texts_append, writings_have_texts}
 use Rattle.message_laws.proofs.Claims.{Claim, Holds, OfMessage, OfOutcome, OfProgram, of_messages}
@@ -42,13 +25,7 @@ use Rattle.message_laws.proofs.Requests.{IsShortRequest, asks_have_texts}
 
 pub cause_ascii : (c : Cause) → are_ascii (cause_text c) ≡ true
 cause_ascii cause.FetchOutside = refl
-cause_ascii cause.Illegal = refl
-cause_ascii cause.JumpMisaligned = refl
-cause_ascii cause.LoadMisaligned = refl
-cause_ascii cause.LoadOutside = refl
-cause_ascii cause.StoreMisaligned = refl
-cause_ascii cause.StoreOutside = refl
-cause_ascii cause.UnknownCall = refl
+cause_ascii _ = refl
 
 why_text : (reason : Why) → IfSome (text_of reason) IsUtf8
 why_text why.Entry = tt
@@ -86,14 +63,7 @@ log_has_texts text h = (IsUtf8-append text (codes "\n") h.0 (IsUtf8-are_ascii (c
 
 pub kind_ascii : (k : AsmErrorKind) → are_ascii (kind_name k) ≡ true
 kind_ascii kind.NotUtf8 = refl
-kind_ascii kind.Syntax = refl
-kind_ascii kind.UnknownInstruction = refl
-kind_ascii kind.BadOperand = refl
-kind_ascii kind.OutOfRange = refl
-kind_ascii kind.TwiceDefined = refl
-kind_ascii kind.Undefined = refl
-kind_ascii kind.TooLarge = refl
-kind_ascii kind.NoMemory = refl
+kind_ascii _ = refl
 
 error_is_text : (error : AsmError) → IsUtf8 (error_text error)
 error_is_text error =

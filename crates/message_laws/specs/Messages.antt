@@ -1,9 +1,9 @@
 -- What holds of each message after any list of events: an editor can read it.
 --
 -- A message is read as it was meant where its texts are UTF-8, as those of JSON are (RFC 8259, section 8.1), and where it
--- is no longer than a body that the editor reads. What an adapter says has texts of three origins. Some come of
+-- is no longer than a body that the editor reads. What an adapter says has texts of three origins. Some are from
 -- requests, whose bodies have at most 1,048,576 bytes: the name of a request that it lacks, and the path of a program.
--- Others come of the text of a program, which has at most as many: its labels, which name frames. All others it makes
+-- Others are from the text of a program, which has at most as many: its labels, which name frames. All others it makes
 -- itself: numbers, the disassembly of a word, and words of its own. And its lists are short: at most 257 frames, 1,024
 -- breakpoints, 4,096 instructions and 65,536 bytes of memory. So it does not matter what an editor sends, what a program
 -- does, and what stands in a file.

@@ -1,18 +1,12 @@
 -- The text of a word is taken for that word.
-use Rattle.std.proofs.Common.{◌≡◌, ℕ, ◌+◌, ◌*◌, ◌/◌, ◌%◌, ◌^◌, ◌<◌, ◌≤◌, Bool, true, false, nat_lt, ◌==◌, ◌&&◌, List, [], ◌∷◌, Option, Some, None, Ok, Err, IfSome, refl, arith, lt-ltb, ltb-true, le-leb}
-use Rattle.std.specs.Prelude.{nat_le, not, if◌then◌else◌, length}
-use Rattle.std.proofs.lemmas.Bool.{and_parts}
+use Rattle.message_parts.proofs.Common.{[], address, address_text, and_parts, are_ascii, arith, as_str, Bool, Err, false, hex_digit, IfSome, if◌then◌else◌, is_word, IsUtf8-are_ascii, le-leb, length, List, lt-ltb, ltb-true, nat_le, nat_lt, None, not, Ok, Option, refl, Some, true, word_in, word_of, ℕ, ◌%◌, ◌&&◌, ◌*◌, ◌+◌, ◌/◌, ◌<◌, ◌==◌, ◌^◌, ◌∷◌, ◌≡◌, ◌≤◌}
 use Rattle.std.specs.Char.{digit_value, is_digit}
 use Rattle.std.specs.List.{list_all}
 use Rattle.std.specs.Str.Parse.{digits_value}
 use Rattle.std.proofs.lemmas.Bool.Decides.{nat_tests}
 use Rattle.byte_strings.proofs.Below.{all_below, all_below_at}
-use Rattle.json.proofs.Printed.Utf8.{are_ascii, IsUtf8-are_ascii}
 use Rattle.numerals.specs.Numerals.{magnitude_by, numeral, prefixed, within}
 use Rattle.numerals.specs.declared.NumeralError.TheVariants.{Malformed, TooLarge}
-use Rattle.serde_json.specs.Find.{as_str}
-use Rattle.message_parts.specs.Addresses.{address, address_text, hex_digit, word_in, word_of}
-use Rattle.message_parts.specs.Forms.{is_word}
 use Rattle.message_parts.proofs.Lawful.{Lawful, then_is}
 
 -- ---- one digit
@@ -67,7 +61,6 @@ ascii_eight : (a b c d e f g h : ℕ) → Fine a → Fine b → Fine c → Fine 
 ascii_eight a b c d e f g h fa fb fc fd fe ff fg fh =
     rw (fa.ascii, fb.ascii, fc.ascii, fd.ascii, fe.ascii, ff.ascii, fg.ascii, fh.ascii) refl
 
--- it is ASCII
 pub ascii-address_text : (n : ℕ) → n < 2 ^ 32 → are_ascii (address_text n) ≡ true
 ascii-address_text n l =
     let top : n / 2 ^ 28 < 16 = omega arith in

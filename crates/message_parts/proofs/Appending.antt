@@ -1,17 +1,10 @@
 -- What was written, piece by piece.
-use Rattle.std.proofs.Common.{◌≡◌, ℕ, ℤ, pos, negsuc, ◌<◌, ◌^◌, List, [], ◌∷◌, ◌++◌, Option, Some, None, Result, Ok, Err, OnOk, refl, sym, ap, ◌∙◌, subst, append_assoc, append-nil, arith}
-use Rattle.std.proofs.lemmas.Int.{ints}
-use Rattle.std.specs.Fmt.{signed_decimal}
+use Rattle.message_parts.proofs.Common.{[], ap, append-nil, append_assoc, Appends, AreWritten, arith, array, Data, Err, ints, IsWritten, item, Items, items_outline, items_tokens, ItemsWritten, List, member, member_if, Members, members_outline, members_tokens, MembersHaveSmallNumbers, negative, negsuc, no_items, no_members, None, number, object, of_integer, Ok, OnOk, Option, pos, refl, Result, signed_decimal, Some, subst, sym, tokens_of, unsigned, ℕ, ℤ, ◌++◌, ◌<◌, ◌^◌, ◌∙◌, ◌∷◌, ◌≡◌}
 use mir.Syntax.{w32}
 use mir.Val.{SFits}
 use Rattle.json.specs.Token.{Token, begin_object, end_object, begin_array, end_array, key, number as digits}
 use Rattle.json.specs.Tree as tree
 use Rattle.json.specs.Written.{Written, Writes}
-use Rattle.serde_json.specs.Data.{Data, number, unsigned, negative, object, array, Items, no_items, item, Members, no_members, member}
-use Rattle.serde_json.specs.Find.{of_integer}
-use Rattle.serde_json.specs.Written.{members_outline, items_outline}
-use Rattle.message_parts.specs.Forms.{member_if}
-use Rattle.message_parts.specs.Written.{Appends, tokens_of, members_tokens, items_tokens, IsWritten, AreWritten, ItemsWritten, MembersHaveSmallNumbers}
 
 -- ---- tokens
 
@@ -23,7 +16,6 @@ Appends-then {first} {second} {third} {some} {others} h k = record {
   tokens = k.tokens ∙ ap (λ ts. ts ++ others) h.tokens ∙ append_assoc first.tokens some others;
 }
 
--- one token
 pub Appends-token : {E : Type 0} {old new : Written} {token : Token} → Writes {E = E} (Ok tt) old new token → Appends old new (token ∷ [])
 Appends-token h = record { before = h.room.0; tokens = h.ok }
 
@@ -85,7 +77,6 @@ pub if_then : {A : Type 0} {first second third : Written} {others : Members} (na
 if_then name form None h k = record { appends = Appends-then h.appends k.appends; small = k.small }
 if_then name form (Some x) h k = and_then h k
 
--- no member
 pub no_member : {here : Written} → AreWritten here here no_members
 no_member {here} = record { appends = record { before = refl; tokens = sym (append-nil here.tokens) }; small = tt }
 
@@ -119,7 +110,6 @@ pub item_then : {first second third : Written} {value : Data} {others : Items} �
     → ItemsWritten second third others → ItemsWritten first third (item value others)
 item_then h k = record { appends = Appends-then h.appends k.appends; small = (h.small, k.small) }
 
--- no item
 pub no_item : {here : Written} → ItemsWritten here here no_items
 no_item {here} = record { appends = record { before = refl; tokens = sym (append-nil here.tokens) }; small = tt }
 

@@ -1,13 +1,10 @@
 -- Bytes are found again in their encoding.
-use Rattle.std.proofs.Common.{◌≡◌, ℕ, zero, suc, Bool, true, false, List, [], ◌∷◌, Some, None, IfSome, refl, arith, ltb-true, lt-ltb}
-use Rattle.std.specs.Prelude.{if◌then◌else◌}
-use Rattle.std.proofs.lemmas.Bool.{and_parts}
+use Rattle.message_parts.proofs.Common.{[], and_parts, arith, as_str, Bool, false, IfSome, if◌then◌else◌, List, lt-ltb, ltb-true, None, refl, Some, suc, true, zero, ℕ, ◌∷◌, ◌≡◌}
 use Rattle.std.proofs.lemmas.Str.{IsUtf8-from_ascii}
 use Rattle.base64.proofs.EngineFacts.{IsAscii-encode_of, decode_of-encode_of}
 use Rattle.base64.specs.Engines.{standard}
 use Rattle.base64.specs.GeneralPurpose.{IsBytes, decoded_of, encode_of}
 use Rattle.protocol.proofs.Decoding.{decoded_of-ok}
-use Rattle.serde_json.specs.Find.{as_str}
 use Rattle.message_parts.specs.EncodedBytes.{are_bytes, bytes_in, encoded_bytes, if_bytes}
 use Rattle.message_parts.proofs.Lawful.{Lawful, then_is}
 

@@ -1,9 +1,5 @@
 -- The text of the bytes of a word is taken for that word.
-use Rattle.std.proofs.Common.{◌≡◌, ℕ, ◌^◌, ◌<◌, ◌/◌, ◌%◌, true, List, [], ◌∷◌, Some, IfSome, refl, arith, ltb-true}
-use Rattle.json.proofs.Printed.Utf8.{are_ascii, IsUtf8-are_ascii}
-use Rattle.serde_json.specs.Find.{as_str}
-use Rattle.message_parts.specs.Addresses.{hex_digit}
-use Rattle.message_parts.specs.Forms.{is_word}
+use Rattle.message_parts.proofs.Common.{[], are_ascii, arith, as_str, hex_digit, IfSome, is_word, IsUtf8-are_ascii, List, ltb-true, refl, Some, true, ℕ, ◌%◌, ◌/◌, ◌<◌, ◌^◌, ◌∷◌, ◌≡◌}
 use Rattle.message_parts.specs.InstructionBytes.{bytes_text, instruction_bytes, word_of_bytes}
 use Rattle.message_parts.proofs.Addresses.{Fine, fine, sixteen, kept_word, word_in-address_text}
 use Rattle.message_parts.proofs.Lawful.{Lawful, then_is}
@@ -18,7 +14,6 @@ ascii_pairs : (a b c d e f g h : ℕ) → Fine a → Fine b → Fine c → Fine 
 ascii_pairs a b c d e f g h fa fb fc fd fe ff fg fh =
     rw (fa.ascii, fb.ascii, fc.ascii, fd.ascii, fe.ascii, ff.ascii, fg.ascii, fh.ascii) refl
 
--- it is ASCII
 pub ascii-bytes_text : (n : ℕ) → n < 2 ^ 32 → are_ascii (bytes_text n) ≡ true
 ascii-bytes_text n l =
     let top : n / 2 ^ 28 < 16 = omega arith in

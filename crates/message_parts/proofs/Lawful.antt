@@ -1,20 +1,12 @@
 -- What is written in a form is taken for what it was, and is plain JSON.
-use Rattle.std.proofs.Common.{◌≡◌, ℕ, ℤ, pos, negsuc, neg_ℤ, int_le, ◌^◌, ◌<◌, ◌≤◌, ◌&&◌, suc, nat_lt, List, [], ◌∷◌, ◌++◌, Bool, true, false, Option, Some, None, IfSome, ◌⊎◌, inl, inr, option_and_then, option_map, Ordering, Less, Equal, Greater, refl, sym, ap, ◌∙◌, arith, lt-ltb, ltb-true}
-use Rattle.std.specs.Prelude.{if◌then◌else◌}
-use Rattle.std.proofs.lemmas.Bool.{and_parts}
+use Rattle.message_parts.proofs.Common.{[], all_found, and_parts, ap, are_ascii, AreTexts, arith, as_array, as_i64, as_number, as_u64, Bool, Data, depth, either, Equal, false, field, Fields, first_named, fixed, Form, found_if, found_or_empty, get, get_member, Greater, has_float, HasSmallNumbers, if_any, IfSome, if◌then◌else◌, inl, inr, int_le, is_in_either, is_in_if, is_signed_word, is_word, IsUtf8-are_ascii, item, Items, items_depth, items_have_float, items_of, ItemsHaveSmallNumbers, left_or_right, Less, List, list, lt-ltb, ltb-true, made_of, member, member_if, Members, members_depth, members_either, members_have_float, MembersHaveSmallNumbers, nat_lt, neg_ℤ, negsuc, no_items, no_members, None, none, number, object, object_of, of_integer, one_of, Option, option_and_then, option_map, optional, Ordering, pos, refl, signed, Some, suc, sym, text, texts_either, texts_if, texts_of, true, truth, unless_empty, whole, within_word, ℕ, ℤ, ◌&&◌, ◌++◌, ◌<◌, ◌^◌, ◌∙◌, ◌∷◌, ◌≡◌, ◌≤◌, ◌⊎◌}
 use Rattle.std.proofs.lemmas.Bool.Decides.{nat_tests}
 use Rattle.std.specs.List.{list_all}
 use Rattle.std.specs.Cmp.Lexicographic.{slice_cmp}
 use Rattle.std.specs.Ordering.{nat_cmp, is_lt, match_ordering, ordering_reverse}
 use Rattle.std.proofs.lemmas.Cmp.{nat_list_cmp_total}
-use Rattle.json.proofs.Printed.Utf8.{are_ascii, IsUtf8-are_ascii}
-use Rattle.serde_json.specs.Data.{Data, number, object, Items, no_items, item, Members, no_members, member, depth, items_depth, members_depth}
-use Rattle.serde_json.specs.Find.{get, get_member, as_array, as_number, as_i64, as_u64, of_integer}
 use Rattle.protocol.specs.Properties.{◌>>=◌, integer, within_i32}
-use Rattle.serde_json.specs.Written.{has_float, items_have_float, members_have_float}
-use Rattle.message_parts.specs.Forms.{Form, Fields, whole, signed, is_signed_word, truth, text, first_named, one_of, list, none, field, fixed, optional, unless_empty, if_any, found_or_empty, object_of, either, left_or_right, members_either, is_in_either, texts_either, made_of, all_found, items_of, texts_of, member_if, found_if, is_in_if, texts_if, AreTexts, is_word, within_word}
 use Rattle.message_parts.specs.Order.{begins_above, is_ordered, are_items_ordered, are_members_ordered}
-use Rattle.message_parts.specs.Written.{HasSmallNumbers, ItemsHaveSmallNumbers, MembersHaveSmallNumbers}
 use Rattle.message_parts.proofs.Texts.{IsPlain, AreItemsPlain, AreMembersPlain, HasSmallNumbers-IsPlain}
 
 -- ---- what holds of every form here, whose values nest so deep at most

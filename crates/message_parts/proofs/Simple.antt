@@ -1,8 +1,5 @@
 -- Plainness of values that are written out: a test, so that it computes.
-use Rattle.std.proofs.Common.{◌≡◌, ◌^◌, ◌&&◌, nat_lt, Bool, true, false, ltb-true}
-use Rattle.std.proofs.lemmas.Bool.{and_parts}
-use Rattle.json.proofs.Printed.Utf8.{are_ascii, IsUtf8-are_ascii}
-use Rattle.serde_json.specs.Data.{Num, unsigned, negative, float, Data, null, boolean, number, string, array, object, Items, no_items, item, Members, no_members, member}
+use Rattle.message_parts.proofs.Common.{and_parts, are_ascii, array, Bool, boolean, Data, false, float, IsUtf8-are_ascii, item, Items, ltb-true, member, Members, nat_lt, negative, no_items, no_members, null, Num, number, object, string, true, unsigned, ◌&&◌, ◌^◌, ◌≡◌}
 use Rattle.message_parts.proofs.Texts.{IsPlain, AreItemsPlain, AreMembersPlain}
 
 abbrev is_small_number : Num → Bool

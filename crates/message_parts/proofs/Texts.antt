@@ -1,12 +1,10 @@
 -- The compact text of a value without floats reads as the value, and is UTF-8 where its texts are.
-use Rattle.std.proofs.Common.{◌≡◌, ℕ, suc, pos, negsuc, ◌^◌, ◌<◌, ◌≤◌, List, [], ◌∷◌, Bool, true, false, Some, option_and_then, decimal, IsUtf8, Ordering, Less, Equal, Greater, refl, sym, ap, ◌∙◌, arith, append-nil, lt-ltb}
-use Rattle.std.proofs.lemmas.Bool.{and_parts}
+use Rattle.message_parts.proofs.Common.{[], and_parts, ap, append-nil, are_ascii, arith, array, Bool, boolean, comma_if, compact_text, Data, decimal, depth, Equal, false, float, Greater, HasSmallNumbers, IsSmallNumber, IsUtf8, IsUtf8-are_ascii, IsUtf8-boolean, IsUtf8-quoted, item, Items, items_depth, items_outline, items_text, ItemsHaveSmallNumbers, Less, List, lt-ltb, member, Members, members_depth, members_outline, members_text, MembersHaveSmallNumbers, negative, negsuc, no_items, no_members, null, number, object, option_and_then, Ordering, outline, pos, put, refl, signed_decimal, Some, string, suc, sym, true, unsigned, ℕ, ◌<◌, ◌^◌, ◌∙◌, ◌∷◌, ◌≡◌, ◌≤◌}
 use Rattle.std.proofs.lemmas.Cmp.{nat_list_cmp_total}
 use Rattle.std.proofs.lemmas.Fmt.{decimal_is_IsNumeral}
 use Rattle.std.proofs.lemmas.Str.{IsUtf8-append, IsUtf8-nil}
 use Rattle.std.specs.Char.{digit_value}
 use Rattle.std.specs.Cmp.Lexicographic.{slice_cmp}
-use Rattle.std.specs.Fmt.{signed_decimal}
 use Rattle.std.specs.Ordering.{nat_cmp, is_lt, ordering_reverse}
 use Rattle.std.specs.Str.Parse.{AllDigits}
 use Rattle.json.specs.Json as json
@@ -15,14 +13,10 @@ use Rattle.json.specs.Tree as tree
 use Rattle.json.proofs.Printed.Decimals.{IsNumber-decimal, IsNumber-signed_decimal}
 use Rattle.json.proofs.Printed.Tokens.{tokens-print}
 use Rattle.json.proofs.Printed.Trees.{value-json_tokens, ArePrintable-json_tokens}
-use Rattle.json.proofs.Printed.Utf8.{are_ascii, IsUtf8-are_ascii, IsUtf8-quoted, IsUtf8-boolean}
-use Rattle.serde_json.specs.Data.{unsigned, negative, float, Data, null, boolean, number, string, array, object, Items, no_items, item, Members, no_members, member, put, depth, items_depth, members_depth}
 use Rattle.serde_json.specs.Read.{read, of_json, of_items, of_members, max_depth}
-use Rattle.serde_json.specs.Written.{outline, items_outline, members_outline, comma_if, compact_text, items_text, members_text}
 use Rattle.serde_json.proofs.Numbers.{number_of-decimal, number_of-negative}
 use Rattle.serde_json.proofs.Texts.{print-outline}
 use Rattle.protocol.specs.Json.{json_of}
-use Rattle.message_parts.specs.Written.{IsSmallNumber, HasSmallNumbers, ItemsHaveSmallNumbers, MembersHaveSmallNumbers}
 use Rattle.message_parts.specs.Order.{begins_above, is_ordered, are_items_ordered, are_members_ordered}
 use Rattle.protocol.proofs.JsonTexts.{json_of-text}
 

@@ -1,4 +1,4 @@
--- The body that answers `continue`: every thread goes on (DAP specification, `ContinueResponse`). There is one.
+-- The body that answers `continue`: every thread continues (DAP specification, `ContinueResponse`). There is one.
 use Rattle.std.specs.Prelude.{true, codes}
 use Rattle.serde_json.specs.Data.{Data, boolean, object, no_members, member}
 

@@ -1,4 +1,4 @@
--- The body of the event `continued`: every thread goes on (DAP specification, `ContinuedEvent`). There is one, the
+-- The body of the event `continued`: every thread continues (DAP specification, `ContinuedEvent`). There is one, the
 -- hart, whose number is 1.
 use Rattle.std.specs.Prelude.{true, codes}
 use Rattle.serde_json.specs.Data.{Data, boolean, number, unsigned, object, no_members, member}

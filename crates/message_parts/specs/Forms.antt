@@ -222,7 +222,7 @@ object_of fields = record {
   texts = fields.texts;
 }
 
--- one of two kinds of objects, of which something in the object says which it is
+-- one of two kinds of objects; something in the object says which it is
 abbrev pub left_or_right : {A B : Type 0} → (Data → Option A) → (Data → Option B) → Bool → Data → Option (A ⊎ B)
 left_or_right left right true d = option_map (λ x. inl x) (left d)
 left_or_right left right false d = option_map (λ y. inr y) (right d)

@@ -1,8 +1,8 @@
 -- The body that answers `stackTrace`: where the program is, and from where it was called.
 --
 -- A frame has a number, a name, the address at which it is, and the line there, with its source (DAP specification,
--- `StackFrame`). An address that belongs to no line has no source. `totalFrames` counts the frames that there are, of
--- which the answer may give some (`StackTraceResponse`).
+-- `StackFrame`). An address that belongs to no line has no source. `totalFrames` counts all frames; the answer may give
+-- only some of them (`StackTraceResponse`).
 use Rattle.std.specs.Prelude.{Some, codes}
 use Rattle.message_parts.specs.Forms.{Form, object_of, none, field, optional, made_of, whole, text, list}
 use Rattle.message_parts.specs.Addresses.{address}

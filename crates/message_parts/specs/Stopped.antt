@@ -1,6 +1,6 @@
 -- The body of the event `stopped`: why the machine stopped (DAP specification, `StoppedEvent`).
 --
--- All threads stop, of which there is one. The body lists the numbers of the breakpoints that stopped it, where there
+-- All threads stop; there is one. The body lists the numbers of the breakpoints that stopped it, where there
 -- are any, and has a text where there is more to say of the reason, as of an exception.
 use Rattle.std.specs.Prelude.{ℕ, List, [], ◌∷◌, Some, true, codes}
 use Rattle.serde_json.specs.Data.{boolean, number, unsigned}

@@ -1,4 +1,4 @@
-//! The body that answers `continue`: every thread goes on.
+//! The body that answers `continue`: every thread continues.
 ghost use Rattle.std.specs.Prelude.{OnOk};
 ghost use Rattle.message_parts.specs.Continue.{continue_body};
 ghost use Rattle.message_parts.specs.Written.{IsWritten};
@@ -8,7 +8,7 @@ use crate::members::ALL_THREADS_CONTINUED;
 use json::Writer;
 use std::alloc::AllocError;
 
-/// Writes that every thread goes on, of which there is one. It fails where no memory is left,
+/// Writes that every thread continues; there is one, the hart. It fails where no memory is left,
 /// and then the writer is of no more use.
 pub fn body(out: &mut Writer) -> Result<(), AllocError>
     ensures { OnOk result (IsWritten out.old out.new continue_body) }

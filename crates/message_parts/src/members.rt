@@ -35,7 +35,7 @@ pub const SOURCE: &str = "source";
 pub const STACK_FRAMES: &str = "stackFrames";
 /// How many frames there are (`StackTraceResponse.body.totalFrames`).
 pub const TOTAL_FRAMES: &str = "totalFrames";
-/// Whether every thread goes on (`ContinueResponse.body.allThreadsContinued`, `ContinuedEvent`).
+/// Whether every thread continues (`ContinueResponse.body.allThreadsContinued`, `ContinuedEvent`).
 pub const ALL_THREADS_CONTINUED: &str = "allThreadsContinued";
 /// What became of breakpoints (`SetBreakpointsResponse.body.breakpoints`).
 pub const BREAKPOINTS: &str = "breakpoints";

@@ -1,16 +1,12 @@
 -- What holds of every stream and of every past.
-use Rattle.std.proofs.Common.{◌≡◌, ℕ, List, [], ◌++◌, length, drop, fold, Option, Some, None, refl, sym, ap, ◌∙◌, append-nil, append_assoc}
+use Rattle.mirror.proofs.Common.{[], after_input, ap, append-nil, append_assoc, body_limit, drop, error_of, Facts, fault_in, fold, folded, length, List, messages_of, messages_so_far, newly_whole, None, nothing_past, Option, Past, reading_after, refl, Some, sym, ℕ, ◌++◌, ◌∙◌, ◌≡◌}
 use Rattle.std.proofs.Math.Seq.{drop-append_seam}
 use Rattle.std.proofs.lemmas.List.Sums.{fold-append, fold_push}
 use Rattle.framing.specs.Reading.{Reading, reading_of}
-use Rattle.framing.specs.Streams.{reading_after}
 use Rattle.framing.proofs.Cutting.{reading_of-append}
 use Rattle.protocol.specs.declared.request.MessageError.{MessageError}
 use Rattle.replies.specs.declared.message.Message.{Message}
-use Rattle.facts.specs.Facts.{Facts}
-use Rattle.mirror.specs.Folding.{folded}
 use Rattle.mirror.specs.Laws.{CutsDoNotMatter, FaultsStay, InputsMakePasts, MessagesMakeFacts}
-use Rattle.mirror.specs.Streams.{Past, after_input, nothing_past, body_limit, error_of, fault_in, messages_of, messages_so_far, newly_whole}
 use Rattle.mirror.specs.declared.asked.Asked.{Asked}
 use Rattle.mirror.proofs.Streaming.{messages_of-append, messages_of-error, same_fault}
 

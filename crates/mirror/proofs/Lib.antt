@@ -1,3 +1,4 @@
+pub mod Common
 -- maps and lists as functions
 pub mod Maps
 -- the messages of a stream that comes in pieces

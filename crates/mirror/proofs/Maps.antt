@@ -1,16 +1,13 @@
 -- What maps and lists have, as functions.
-use Rattle.std.proofs.Common.{◌≡◌, ℕ, zero, suc, ◌+◌, ◌-◌, ◌^◌, ◌<◌, ◌≤◌, Bool, true, false, cond, List, [], ◌∷◌, ◌++◌, length, Option, Some, None, refl, sym, ap, subst, ◌∙◌, arith}
+use Rattle.mirror.proofs.Common.{[], ap, arith, Bool, breaks_of, bytes_eq, cond, false, filter, find, flat, length, List, listed, nat_le, nat_lt, None, not, Option, PlaceIs, refl, register_in, replicate, slice_get, Some, source_in, subst, suc, sym, true, unknown, upto, zero, ℕ, ◌&&◌, ◌++◌, ◌+◌, ◌-◌, ◌<◌, ◌^◌, ◌∙◌, ◌∷◌, ◌≡◌, ◌≤◌}
 use Rattle.std.proofs.lemmas.Bool.Decides.{nat_tests}
 use Rattle.std.proofs.lemmas.Slice.Eq.{bytes_eq-Decides}
-use Rattle.std.specs.Prelude.{slice_get, nat_le, nat_lt, ◌&&◌, replicate, find, filter, not, bytes_eq}
 use Rattle.std.specs.Cmp.{nat_cmp_is}
 use Rattle.std.specs.Ordering.{nat_cmp, is_eq}
 use Rattle.std.specs.declared.cmp.Ordering.TheVariants.{Less, Equal, Greater}
 use Rattle.std.specs.BTreeMap.{is_at}
 use mathlib.Core.Path.{fun_ext}
-use Rattle.facts.specs.Facts.{unknown}
-use Rattle.mirror.specs.Folding.{listed, over, upto}
-use Rattle.mirror.specs.Kept.{PlaceIs, breaks_of, flat, register_in, source_in}
+use Rattle.mirror.specs.Folding.{over}
 use Rattle.facts.specs.declared.breakpoint.BreakInfo.{BreakInfo}
 use Rattle.mirror.specs.declared.sources.Listed.{Listed}
 

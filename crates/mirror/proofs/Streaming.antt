@@ -1,19 +1,14 @@
 -- The messages of a stream that comes in pieces.
-use Rattle.std.proofs.Common.{◌≡◌, ℕ, ◌<◌, List, [], ◌∷◌, ◌++◌, map, length, drop, fold, Option, Some, None, Result, Ok, Err, refl, sym, ap, ◌∙◌, inl, inr, append-nil, append_assoc, arith}
+use Rattle.mirror.proofs.Common.{[], answer_by, ap, append-nil, append_assoc, arith, AsksAre, at, body_limit, drop, Err, error_in, error_of, Facts, facts_of, fault_in, fault_of, FedBy, Feeds, FeedsPast, first_fault, first_of, fold, folded, GoesOn, inl, inr, Kept, length, lent_from, Link, link_by, link_fault, link_of, List, map, message_of, messages_in, messages_of, newly_whole, None, Ok, Option, others_of, Past, reading_after, refl, Result, Some, StandsFor, stream_fault, sym, Unframed, with_piece, ℕ, ◌++◌, ◌<◌, ◌∙◌, ◌∷◌, ◌≡◌}
 use Rattle.std.proofs.Math.Seq.{drop-append_seam}
 use Rattle.std.proofs.lemmas.List.{map-append}
 use Rattle.framing.specs.Reading.{Reading, Tail, reading_of, with_bodies}
 use Rattle.framing.specs.Reading.Tail.{Partial, Faulty}
-use Rattle.framing.specs.Streams.{Unframed, fault_of, first_of, lent_from, others_of, reading_after}
 use Rattle.framing.specs.declared.error.FrameError.{FrameError}
 use Rattle.framing.proofs.Cutting.{reading_of-append}
 use Rattle.protocol.specs.declared.request.MessageError.{MessageError}
 use Rattle.replies.specs.declared.message.Message.{Message}
-use Rattle.facts.specs.Facts.{Facts}
-use Rattle.mirror.specs.Folding.{folded}
-use Rattle.mirror.specs.Kept.{Kept, Link, at, facts_of}
 use Rattle.mirror.specs.Kept.Link.{Open, Closed}
-use Rattle.mirror.specs.Streams.{AsksAre, FedBy, Feeds, FeedsPast, GoesOn, Past, StandsFor, answer_by, body_limit, error_in, error_of, fault_in, first_fault, link_by, link_fault, link_of, message_of, messages_in, messages_of, newly_whole, stream_fault, with_piece}
 use Rattle.mirror.specs.declared.asked.Asked.{Asked}
 use Rattle.mirror.specs.declared.error.MirrorError.{MirrorError}
 

@@ -1,7 +1,7 @@
 -- What a message makes of the facts (DAP specification, `Event`, `Response`).
 --
 -- An event speaks for itself. A response tells something where it is a success, the request of its number is known, and
--- its body is one of that request; else it changes nothing. When the machine goes on or stops, what was known of it while
+-- its body is one of that request; else it changes nothing. When the machine continues or stops, what was known of it while
 -- it stood still is forgotten: its frames, its registers and its memory may be others now. Its breakpoints stay.
 use Rattle.std.specs.Prelude.{◌≡◌, ℕ, ◌+◌, ◌-◌, ◌^◌, ◌==◌, nat_le, nat_lt, ◌&&◌, if◌then◌else◌, true, List, []}
 use Rattle.std.specs.Prelude.{◌∷◌, length, map, fold, take, filter_map, slice_get, bytes_eq, Option, Some, None, codes, pos, refl}
@@ -38,7 +38,7 @@ use Rattle.replies.specs.declared.response.ResponseBody.TheVariants.{StackTrace 
 use Rattle.replies.specs.declared.response.ResponseBody.TheVariants.{SetVariable as NewValue, ReadMemory as Bytes}
 use Rattle.replies.specs.declared.response.ResponseBody.TheVariants.{WriteMemory as Written}
 
--- ---- the machine goes on, stops or ends
+-- ---- the machine continues, stops or ends
 
 -- the machine is in another state, and what was known of it as it stood is forgotten
 abbrev pub in_state : RunState → Facts → Facts
@@ -217,7 +217,7 @@ not_the_first_frame : over 1 two_frames unknown 0 ≡ None
 unfolding over two_frames
 not_the_first_frame = refl
 
--- as the machine goes on, its registers are forgotten
+-- as the machine continues, its registers are forgotten
 registers_are_forgotten : (folded unknown (record nothing_known { register = λ number. Some 7 }) (IsEvent Continued)).register 10 ≡ None
 registers_are_forgotten = refl
 

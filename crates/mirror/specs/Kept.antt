@@ -46,7 +46,7 @@ facts_of known = record {
   byte = at known.bytes;
 }
 
--- the stream goes on from a tail, or it has a fault
+-- the stream continues from a tail, or it has a fault
 pub data Link : Type 0 where
   Open : Tail → Link
   Closed : MirrorError → Link

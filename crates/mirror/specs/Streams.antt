@@ -114,7 +114,7 @@ after inputs = fold after_input nothing_past inputs
 
 -- ---- what is kept of it
 
--- the stream goes on from its tail, or has a fault
+-- the stream continues from its tail, or has a fault
 abbrev pub link_by : Option MirrorError → Tail → Link
 link_by None tail = Open tail
 link_by (Some error) tail = Closed error
@@ -132,7 +132,7 @@ abbrev pub AsksAre : Link → (ℕ → Option Asked) → (ℕ → Option Asked) 
 AsksAre (Open tail) kept asked = kept ≡ asked
 AsksAre (Closed error) kept asked = Unit {0}
 
--- What is kept stands for a past: its facts are those of the past, and it goes on as the past does.
+-- What is kept represents a past: its facts are those of the past, and it continues as the past does.
 pub record StandsFor (kept : Kept) (past : Past) : Type 0 where
   pub facts : facts_of kept.known ≡ past.facts
   pub link : kept.link ≡ link_of (reading_of body_limit past.bytes)
@@ -143,7 +143,7 @@ abbrev pub answer_by : Option MirrorError → Result (Unit {0}) MirrorError
 answer_by None = Ok tt
 answer_by (Some error) = Err error
 
--- what is kept after a reading that goes on from it
+-- what is kept after a reading that continues from it
 pub record GoesOn (old : Kept) (r : Reading) (new : Kept) : Type 0 where
   pub facts : facts_of new.known ≡ fold (folded (at old.asked)) (facts_of old.known) (messages_of r.bodies)
   pub asked : new.asked ≡ old.asked

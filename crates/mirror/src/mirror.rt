@@ -28,7 +28,7 @@ const BODY_LIMIT: u32 = 4_294_967_295;
 
 /// What an editor may know of the machine, by the requests that it sent and the bytes that came (Debug Adapter Protocol). Of bytes
 /// that came only the next frame's are kept, and of facts told twice the later one. A contract sees the facts, what was asked, and
-/// where the stream goes on or which fault it has.
+/// where the stream continues or which fault it has.
 #[derive(Drop)]
 pub struct Mirror {
     alloc: Global,

@@ -30,7 +30,7 @@ impl Listed {
     }
 }
 
-/// The breakpoints of the sources of which a list was told. A contract sees the lists.
+/// The breakpoints of each source whose list was told. A contract sees the lists.
 #[derive(Drop)]
 pub(crate) struct Sources {
     lists: Vec<Listed>,

@@ -19,7 +19,7 @@ numeral radix digits =
     if not (length digits == 0) && list_all (λ c. is_digit c radix) digits then within (digits_value radix digits)
     else Err Malformed
 
--- the digits after `0x`, if a text begins so
+-- the digits after `0x`, if a text begins with it
 abbrev pub prefixed : List ℕ → Option (List ℕ)
 prefixed [] = None
 prefixed (a ∷ []) = None

@@ -55,7 +55,7 @@ pub fn numeral(radix: u32, digits: &[u8]) -> Result<u32, NumeralError>
     }
 }
 
-// The digits after `0x`, if a text begins so.
+// The digits after `0x`, if a text begins with it.
 pub(crate) fn prefixed(text: &[u8]) -> Option<&[u8]>
     ensures { option_copied result ≡ prefixed text.now }
 {

@@ -7,7 +7,7 @@ use Rattle.clap.specs.declared.error.kind.ErrorKind.TheVariants as kind
 use Rattle.clap.specs.declared.parser.matches.ArgMatches.{ArgMatches}
 use Rattle.options.specs.CommandLine.{command_line, is_exact}
 use Rattle.options.specs.Options.{Tells, asked, asked_of, unless_refused}
-use Rattle.options.specs.Broken.{Finds, kind_of_fault}
+use Rattle.options.specs.Private.Broken.{Finds, kind_of_fault}
 use Rattle.options.specs.declared.asked.Options.{Options}
 use Rattle.options.specs.declared.fault.Fault.{Fault}
 

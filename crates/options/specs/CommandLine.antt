@@ -1,13 +1,13 @@
 -- The command line as clap is told of it: what clap's definitions take for a command.
 --
---   rvdap [--memory KIB] [--verbose]
---   rvdap --listen ADDR [--program FILE] [--once] [--memory KIB] [--verbose]
---   rvdap asm FILE
---   rvdap watch SCRIPT
+--   rvdap [--memory KIB] [--verbose] [--record FOLDER]
+--   rvdap --listen ADDR [--program FILE] [--once] [--memory KIB] [--verbose] [--record FOLDER]
+--   rvdap asm|convert FILE
+--   rvdap watch SCRIPT [C [N]]
 --   rvdap run [--memory KIB] [--limit N] [--output-limit BYTES] [--count] [--registers] [--trace N] FILE..
 --   rvdap check [--json] FILE..
 --   rvdap labels [--json] FILE
---   rvdap convert FILE
+--   rvdap replay [--from N] [--to N] [--facts] SCRIPT
 --
 -- clap gets the words after the program's name. It takes each option at most once, a value after a blank or after `=`,
 -- and adds `--help` and `--version`. That options stand beside one another as above is said in `Options`.
@@ -28,7 +28,7 @@ flag name = record (new_rule name) { long = Some name; action = Some SetTrue }
 abbrev pub file : Text → Rule
 file id = record (new_rule id) { required = true }
 
--- files of a command, of which there has to be one
+-- files of a command, at least one
 abbrev pub files : Text → Rule
 files id = record (new_rule id) { required = true; range = Some (record { start_inclusive = 1; end_inclusive = usize_max }) }
 

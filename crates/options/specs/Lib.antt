@@ -8,8 +8,8 @@ pub mod Memory
 pub mod Limits
 -- what words ask for, and which are refused
 pub mod Options
--- ---- for private clauses alone: which rule is broken
-pub mod Broken
+-- what private clauses alone cite
+pub mod Private
 -- ---- of the crates below
 -- the number that digits write
 pub use Rattle.numerals.specs.Numerals

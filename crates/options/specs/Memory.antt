@@ -37,7 +37,7 @@ kib_for (Some text) = kib_in text
 
 -- ---- the same by the rules above
 
--- a text asks for so many KiB
+-- a text asks for this many KiB
 pub record AsksFor (text : List ℕ) (kib : ℕ) : Type 0 where
   pub written : IsNumeral 10 text
   pub is_offered : IsOffered (digits_value 10 text)

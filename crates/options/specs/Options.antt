@@ -166,7 +166,7 @@ abbrev pub unless_refused : Kinds → Result Options Kinds → Result Options Ki
 unless_refused [] asked = asked
 unless_refused (kind ∷ kinds) asked = Err (kind ∷ kinds)
 
--- what words ask for, or the kinds of error of which one is reported
+-- what words ask for, or the kinds of error; one of them is reported
 unfoldable pub asked : List Text → Result Options Kinds
 asked words = unless_refused (fault_of command_line words) (asked_of (matches_of command_line words) (subcommand_of command_line words))
 

@@ -501,7 +501,7 @@ fn json<'a>(alloc: Global) -> Arg<'a>
         .help("Write an object of JSON on each line")
 }
 
-// The files of a command, of which there has to be one.
+// The files of a command, at least one.
 fn files<'a>(alloc: Global, help: &'a str) -> Arg<'a>
     ensures rule { rule_of result ≡ spec.files (codes "FILE") }
     ensures local { result.global ≡ false }

@@ -1,7 +1,7 @@
 //! Why words that clap takes give no options.
 ghost use Rattle.std.specs.Prelude.{◌≡◌, ◌⊎◌, IfOk};
 ghost use Rattle.clap.specs.Words.{kind_of};
-ghost use Rattle.options.specs.Broken.{kind_of_fault};
+ghost use Rattle.options.specs.Private.Broken.{kind_of_fault};
 
 use clap::error::ErrorKind;
 use clap::{Command, Error};

@@ -34,7 +34,7 @@ pub(crate) fn memory_in(text: &str) -> Option<u32>
     }
 }
 
-// Whether so many KiB may be asked for.
+// Whether this many KiB may be asked for.
 fn is_offered(kib: u32) -> bool
     ensures { result ≡ is_offered kib }
 {

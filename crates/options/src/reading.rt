@@ -15,10 +15,10 @@ use std::alloc::Global;
 ///
 /// - `[--memory KIB] [--verbose] [--record FOLDER]`: editors are served over standard streams,
 /// - `--listen ADDR [--program FILE] [--once] [--memory KIB] [--verbose] [--record FOLDER]`: or over TCP,
-/// - `asm FILE`: a file is listed,
+/// - `asm FILE`, `labels [--json] FILE`, `check [--json] FILE..`: the instructions, labels or errors of files are told,
+/// - `run [--memory KIB] [--limit N] [--output-limit BYTES] [--count] [--registers] [--trace N] FILE..`: a program is run,
 /// - `convert FILE`: a file of another assembler is converted,
-/// - `watch SCRIPT [C [N]]`: a script is played, and what is watched is printed,
-/// - `replay [--from N] [--to N] [--facts] SCRIPT`: the same, and its conversation is printed.
+/// - `watch SCRIPT [C [N]]`, `replay [--from N] [--to N] [--facts] SCRIPT`: what a script's editor knows, or its conversation, is printed.
 ///
 /// `Words`: they are none of these, or ask for help or the version. `NoMemory`: no memory was left.
 pub fn options(alloc: Global, words: &[String]) -> Result<Options, Usage>

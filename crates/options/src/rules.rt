@@ -3,7 +3,7 @@ ghost use Rattle.std.specs.Prelude.{◌≡◌, IfErr, IfOk, Some, None, codes, m
 ghost use Rattle.std.specs.Option.{option_map};
 ghost use Rattle.clap.specs.Words.{all_of, first_of, found_of, rows_of, subcommand_rows_of};
 ghost use Rattle.options.specs.Options as spec;
-ghost use Rattle.options.specs.Broken.{Finds, kind_of_fault};
+ghost use Rattle.options.specs.Private.Broken.{Finds, kind_of_fault};
 ghost use Rattle.options.specs.Memory.{kib_for};
 
 use crate::asked::{Mode, Options, PlayOptions, RunOptions, Text, Texts};

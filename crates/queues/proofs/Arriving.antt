@@ -9,7 +9,7 @@ use Rattle.queues.specs.declared.pending.Fate.TheVariants.{Waits, NamesNone}
 use Rattle.queues.specs.declared.pending.Pending.{Pending}
 use Rattle.queues.specs.Arrivals.{is_named, fate_of_cancel}
 
--- a list of which the first elements were changed: the next is as it was, and then it is changed too
+-- a list whose first elements were changed: the next is as it was, and then it is changed too
 pub same_next : {X : Type 0} (f : X → X) (xs : List X) (i : ℕ) (d : X) → i < length xs
     → slice_index_or (map f (take i xs) ++ drop i xs) i d ≡ slice_index_or xs i d
 same_next f [] i d h = absurd (omega (arith, h))

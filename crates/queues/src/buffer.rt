@@ -83,7 +83,7 @@ impl Buffer {
     }
 }
 
-// Bytes, of which the first were taken.
+// Bytes; those before `start` were taken.
 #[derive(Drop)]
 struct Slots {
     bytes: Vec<u8>,

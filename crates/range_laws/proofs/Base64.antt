@@ -1,11 +1,7 @@
 -- What a text in base64 is decoded to is bytes.
-use Rattle.std.proofs.Common.{◌≡◌, ℕ, zero, suc, ◌+◌, ◌*◌, ◌/◌, ◌%◌, ◌<◌, ◌⊎◌, inl, inr, Bool, true, false, cond, eqb, ltb, List, [], ◌∷◌, length, Option, Some, None, Result, Ok, Err, IfOk, IfSome, refl, sym, subst, arith, lit<}
-use Rattle.std.specs.Prelude.{All, slice_index, slice_set}
+use Rattle.range_laws.proofs.Common.{[], All, All-append, All-cons, All-get_or, All-nil, All-set, All-take, AreBytes, arith, Bool, cond, eqb, Err, false, get_or_past, IfOk, IfSome, inl, inr, IsByte, length, List, lit<, ltb, nat_tests, None, Ok, Option, refl, Result, slice_index, slice_set, Some, subst, suc, sym, true, zero, ℕ, ◌%◌, ◌*◌, ◌+◌, ◌/◌, ◌<◌, ◌∷◌, ◌≡◌, ◌⊎◌}
 use Rattle.std.specs.Result.{result_ok}
 use Rattle.std.proofs.lemmas.Bool.{cases_lt}
-use Rattle.std.proofs.lemmas.Bool.Decides.{nat_tests}
-use Rattle.std.proofs.lemmas.List.{get_or_past}
-use Rattle.std.proofs.lemmas.List.Elements.{All-append, All-cons, All-get_or, All-nil, All-set, All-take}
 use Rattle.base64.specs.Decode.{decode_error, decode_group, decode_outcome, decoded_bytes, group_bytes, group_error, groups_before_last, groups_bytes, groups_error, lone_error, no_leftover, or_else, push_leftover, scan_bytes, scan_last, scan_steps, suffix_bytes, suffix_error, symbol_error}
 use Rattle.base64.specs.Engines.{standard}
 use Rattle.base64.specs.GeneralPurpose.{decoded_of}
@@ -13,7 +9,6 @@ use Rattle.base64.specs.declared.decode.DecodeError.{DecodeError}
 use Rattle.base64.specs.declared.decode.DecodeError.TheVariants.{InvalidByte}
 use Rattle.base64.specs.declared.engine.DecodePaddingMode.{DecodePaddingMode}
 use Rattle.base64.proofs.Tables.{IsDecodeTable_from, are_tables_inverse}
-use Rattle.range_laws.specs.Machines.{AreBytes, IsByte}
 
 -- ---- symbols
 

@@ -1,13 +1,7 @@
 -- What a debugger does to a machine leaves it in range.
-use Rattle.std.proofs.Common.{◌≡◌, ℕ, suc, ◌+◌, ◌≤◌, Bool, true, false, cond, eqb, List, [], ◌∷◌, length, Option, Some, None, Ok, refl, sym, ap, subst, lit<, arith}
-use Rattle.std.specs.Prelude.{All, drop, replicate, take}
-use Rattle.std.proofs.lemmas.List.{length-drop, length-take}
-use Rattle.std.proofs.lemmas.List.Elements.{All-cons, All-drop, All-head, All-nil, All-tail, All-replicate, All-take}
+use Rattle.range_laws.proofs.Common.{[], All, All-cons, All-drop, All-head, All-nil, All-replicate, All-tail, All-take, ap, AreBytes, arith, Bool, CallsInRange, cond, DebuggedInRange, drop, eqb, false, fault_at, first_address, HartInRange, HartsStayInRange, Instr, IsByte, IsWord, length, length-drop, length-take, List, lit<, LoadedIsInRange, machine_of, memory_after, None, Ok, Option, PositionInRange, refl, ReloadedIsInRange, replicate, Some, subst, suc, sym, take, TicksStayInRange, true, unless_fault, with_bytes, WritesStayInRange, ℕ, ◌+◌, ◌∷◌, ◌≡◌, ◌≤◌}
 use Rattle.breakpoints.specs.Stops.{Lists}
-use Rattle.image.specs.Memory.{fault_at, first_address, memory_after, unless_fault, with_bytes}
 use Rattle.image.specs.declared.fault.MemFault.{MemFault}
-use Rattle.rv32i.specs.Machine.{machine_of}
-use Rattle.rv32i.specs.declared.instr.Instr.{Instr}
 use Rattle.rv32i.specs.declared.instr.Instr.TheVariants.{Jal, Jalr}
 use Rattle.rv32i.specs.declared.stepped.Stepped.{Stepped}
 use Rattle.rv32i.specs.declared.stepped.Stepped.TheVariants.{Retired, Printed, Break, Exit, Trap}
@@ -23,8 +17,6 @@ use Rattle.stepping.specs.Leading.{LeadTo}
 use Rattle.stepping.specs.Ticks.{Debugged, Moves, gone_on, looked_at, moved_as, position_of, settled, stayed, undone_by}
 use Rattle.stepping.specs.declared.goal.Goal.{Goal}
 use Rattle.stepping.specs.declared.goal.Goal.TheVariants.{Go, In, Over, Out, Back, ReverseGo}
-use Rattle.range_laws.specs.Debugging.{CallsInRange, DebuggedInRange, HartInRange, HartsStayInRange, LoadedIsInRange, PositionInRange, ReloadedIsInRange, TicksStayInRange, WritesStayInRange}
-use Rattle.range_laws.specs.Machines.{AreBytes, IsByte, IsWord}
 use Rattle.range_laws.proofs.Hart.{moves_stay_in_range}
 use Rattle.range_laws.proofs.Words.{bytes_in_range, started_in_range}
 
@@ -118,11 +110,9 @@ still_rest before after h = record { calls = h.calls; end = h.end; past = h.past
 
 settled_rest : (s : Stepped) (instr : Option Instr) (before after : Debugged) → DebuggedInRange before
     → RestInRange (settled s instr before (moved_as before after))
-settled_rest Retired instr before after h = gone_rest instr before (moved_as before after) h refl refl
-settled_rest (Printed number) instr before after h = gone_rest instr before (moved_as before after) h refl refl
-settled_rest Break instr before after h = gone_rest instr before (moved_as before after) h refl refl
 settled_rest (Exit code) instr before after h = still_rest before after h
 settled_rest (Trap cause) instr before after h = still_rest before after h
+settled_rest _ instr before after h = gone_rest instr before (moved_as before after) h refl refl
 
 -- after a move that was undone
 undone_in : (past : List Position) (d : Debugged) → d.past ≡ past → DebuggedInRange d → DebuggedInRange (undone_by past d)
@@ -144,11 +134,7 @@ undone_in (p ∷ past) d e h =
 
 looked_in : (g : Goal) (d : Debugged) → DebuggedInRange d → DebuggedInRange (looked_at g d)
 looked_in ReverseGo d h = lists_in_range _ d h
-looked_in Go d h = lists_in_range _ d h
-looked_in (In granularity) d h = lists_in_range _ d h
-looked_in (Over granularity) d h = lists_in_range _ d h
-looked_in (Out granularity) d h = lists_in_range _ d h
-looked_in Back d h = lists_in_range _ d h
+looked_in _ d h = lists_in_range _ d h
 
 pub ticks_stay_in_range : TicksStayInRange
 ticks_stay_in_range before after answer t h = by_tick before after answer t entered undone moved where

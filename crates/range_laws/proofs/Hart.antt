@@ -1,18 +1,12 @@
 -- Each move leaves a machine in range.
-use Rattle.std.proofs.Common.{◌≡◌, ℕ, ◌/◌, ◌*◌, ◌%◌, Bool, true, false, cond, eqb, List, ◌∷◌, [], Option, Some, None, Result, Ok, Err, sym, subst, arith}
-use Rattle.std.specs.Prelude.{MatchResult, bit_and, bit_or, bit_xor}
-use Rattle.image.specs.Memory.{bytes_at, fault_at, halfword_bytes, little_endian, word_at, word_bytes}
+use Rattle.range_laws.proofs.Common.{[], AreBytes, arith, bit_and, bit_or, bit_xor, Bool, branches, byte_extended, bytes_at, calls, cond, difference, Effect, effect_of, eqb, Err, false, fault_at, fetch_fault, flag, gives, halfword_bytes, halfword_extended, InRange, Instr, IsWord, jumps, linked, List, little_endian, loads_unless, Machine, MatchResult, MovesStayInRange, None, Ok, Option, places, Result, retired, shifted_left, shifted_right, shifted_right_signed, Some, stores_unless, subst, sum, sym, trapped, true, value, word_at, word_bytes, ℕ, ◌%◌, ◌*◌, ◌/◌, ◌∷◌, ◌≡◌}
 use Rattle.image.specs.declared.fault.MemFault.{MemFault}
 use Rattle.image.specs.declared.fault.MemFault.TheVariants.{Misaligned, Outside, NoMemory}
 use Rattle.rv32i.specs.Encoding.{Encodes, IsDecoding, IsIllegal}
 use Rattle.rv32i.specs.Formats.{IType, UType}
-use Rattle.rv32i.specs.Machine.{Machine, Effect, effect_of, fetch_fault, retired, trapped, gives, jumps, linked, branches, loads_unless, stores_unless, calls, sum, value}
-use Rattle.rv32i.specs.Machine.{byte_extended, difference, flag, halfword_extended, places, shifted_left, shifted_right, shifted_right_signed}
-use Rattle.rv32i.specs.declared.instr.Instr.{Instr}
 use Rattle.rv32i.specs.declared.instr.Instr.TheVariants.{Jal, Jalr, Beq, Bne, Blt, Bge, Bltu, Bgeu, Lb, Lh, Lw, Lbu, Lhu, Sb, Sh, Sw, Ecall, Lui, Auipc, Addi, Slti, Sltiu, Xori, Ori, Andi, Slli, Srli, Srai, Add, Sub, Sll, Slt, Sltu, Xor, Srl, Sra, Or, And, Fence, Ebreak}
 use Rattle.rv32i.specs.declared.stepped.Cause.TheVariants.{Illegal, JumpMisaligned}
 use Rattle.rv32i.proofs.Moving.{the_decoding}
-use Rattle.range_laws.specs.Machines.{AreBytes, InRange, IsWord, MovesStayInRange}
 use Rattle.range_laws.proofs.Words.{and_word, byte_extended_word, byte_read, bytes_in_range, difference_word, flag_word, halfword_extended_word, halfword_in_range, halfword_read, left_word, one_byte, or_word, register_word, right_signed_word, right_word, sum_word, to_even, with_register_in_range, word_in_range, word_read, xor_word}
 
 abbrev StaysIn : Effect → Type 0

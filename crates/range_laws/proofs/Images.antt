@@ -1,12 +1,8 @@
 -- The image of a text is in range.
-use Rattle.std.proofs.Common.{◌≡◌, ℕ, ◌<◌, ◌^◌, Bool, true, false, cond, List, [], ◌∷◌, ◌++◌, map, Option, Some, None, Result, Ok, Err, IfOk, IfSome, refl, arith, lit<}
-use Rattle.std.specs.Prelude.{All, replicate}
+use Rattle.range_laws.proofs.Common.{[], All, All-append, All-cons, All-head, All-nil, All-replicate, All-tail, All-take, AreBytes, arith, Bool, cond, Err, false, IfOk, IfSome, ImageInRange, Instr, IsByte, IsWord, List, lit<, map, None, Ok, Option, refl, replicate, Result, Some, true, word_bytes, ℕ, ◌++◌, ◌<◌, ◌^◌, ◌∷◌, ◌≡◌}
 use Rattle.std.specs.Str.{bytes_eq}
-use Rattle.std.proofs.lemmas.List.Elements.{All-append, All-cons, All-head, All-nil, All-replicate, All-tail, All-take}
 use Rattle.image.specs.Lines.{Label, Row, place_of}
-use Rattle.image.specs.Memory.{word_bytes}
 use Rattle.rv32i.specs.Words.{word_of}
-use Rattle.rv32i.specs.declared.instr.Instr.{Instr}
 use Rattle.rv32i.specs.declared.instr.Instr.TheVariants as i
 use Rattle.statements.specs.Operations.{lower_part, upper_part}
 use Rattle.statements.specs.Spelling.{named}
@@ -25,9 +21,7 @@ use Rattle.assembler.specs.declared.error.AsmErrorKind.{AsmErrorKind}
 use Rattle.assembler.proofs.Loadable.{ends}
 use Rattle.assembler.proofs.Narrow.{assembled_is_narrow}
 use Rattle.assembler.proofs.Rising.{parted}
-use Rattle.range_laws.specs.Debugging.{ImageInRange}
 use Rattle.range_laws.specs.Images.{AssembledIsInRange}
-use Rattle.range_laws.specs.Machines.{AreBytes, IsByte, IsWord}
 use Rattle.range_laws.proofs.Words.{word_in_range}
 
 -- ---- bytes

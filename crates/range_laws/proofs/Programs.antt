@@ -1,5 +1,6 @@
 -- What is done to a program leaves it in range.
-use Rattle.std.proofs.Common.{ℕ, ℤ, zero, suc, Bool, false, List, Option, sym, subst}
+use Rattle.range_laws.proofs.Common.{AreBytes, Bool, DebuggedInRange, false, HartInRange, List, Option, subst, suc, sym, zero, ℕ}
+use Rattle.std.proofs.Common.{ℤ}
 use Rattle.breakpoints.specs.Stops.{Lists, Wanted}
 use Rattle.debuggee.specs.Programs.{Advances, GoesQuietly, Program, ended, entered, first_run, left, marked, marked_by, moved, restarted, resumed, stopped, told, with_functions, with_hart, with_instructions, with_source, written}
 use Rattle.debuggee.specs.declared.program.Advanced.{Advanced}
@@ -14,8 +15,6 @@ use Rattle.std.specs.Prelude.{Ok}
 use Rattle.stepping.specs.Ticks.{Debugged}
 use Rattle.stepping.specs.declared.goal.Goal.{Goal}
 use Rattle.stepping.proofs.Existing.{the_tick}
-use Rattle.range_laws.specs.Debugging.{DebuggedInRange, HartInRange}
-use Rattle.range_laws.specs.Machines.{AreBytes}
 use Rattle.range_laws.specs.Programs.{JustLoadedIsInRange, KeepsInRange, ProgramInRange, ProgramsMoveInRange, RequestsStayInRange, RunsStayInRange}
 use Rattle.range_laws.proofs.Debugging.{begun_in_range, harts_stay_in_range, lists_in_range, loaded_is_in_range, reloaded_is_in_range, ticks_stay_in_range, writes_stay_in_range}
 

@@ -1,6 +1,5 @@
 -- What a request gives to be written is bytes.
-use Rattle.std.proofs.Common.{◌≡◌, refl, ℕ, Bool, true, false, cond, List, Option, Some, None, Result, Ok, Err, IfSome, subst}
-use Rattle.std.specs.Prelude.{bytes_eq, ok_or, option_and_then, ◌||◌}
+use Rattle.range_laws.proofs.Common.{AreBytes, Bool, bytes_eq, cond, Err, false, IfSome, List, None, Ok, ok_or, Option, option_and_then, refl, Result, Some, subst, true, ℕ, ◌||◌, ◌≡◌}
 use Rattle.serde_json.specs.Data.{Data, Members}
 use Rattle.serde_json.specs.Find.{as_bool, as_object, as_str}
 use Rattle.base64.specs.Engines.{standard}
@@ -22,7 +21,6 @@ use Rattle.protocol.specs.declared.request.MessageError.{MessageError}
 use Rattle.protocol.specs.declared.request.MessageError.TheVariants.{BadSeq, NotAMessage, NotJson}
 use Rattle.protocol.specs.declared.write_memory.TheConstants.{ALLOW_PARTIAL, DATA}
 use Rattle.protocol.specs.declared.write_memory.WriteMemoryArguments.{WriteMemoryArguments}
-use Rattle.range_laws.specs.Machines.{AreBytes}
 use Rattle.range_laws.specs.Requests.{GivesBytes, RequestsGiveBytes}
 use Rattle.range_laws.proofs.Base64.{decoded_in_range}
 

@@ -1,13 +1,10 @@
 -- The value that a text writes is a word.
-use Rattle.std.proofs.Common.{ℕ, Bool, true, false, cond, eqb, List, [], ◌∷◌, length, Option, Some, None, Result, Ok, Err, IfOk, IfSome}
-use Rattle.std.specs.Prelude.{nat_le}
+use Rattle.range_laws.proofs.Common.{[], Bool, cond, difference, eqb, Err, false, IfOk, IfSome, IsWord, length, List, nat_le, None, Ok, Option, Result, Some, true, ℕ, ◌∷◌}
 use Rattle.std.specs.Result.{result_ok}
 use Rattle.numerals.specs.Numerals.{numeral, prefixed}
 use Rattle.numerals.specs.Words.{word_by, word_of}
 use Rattle.numerals.specs.declared.NumeralError.{NumeralError}
-use Rattle.rv32i.specs.Machine.{difference}
 use Rattle.variables.specs.Values.{if_signed, negated}
-use Rattle.range_laws.specs.Machines.{IsWord}
 use Rattle.range_laws.specs.Requests.{RegistersStayInRange, TextsGiveWords}
 use Rattle.range_laws.proofs.Values.{numeral_word}
 use Rattle.range_laws.proofs.Words.{difference_word, registers_in_range}

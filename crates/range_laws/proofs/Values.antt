@@ -1,11 +1,8 @@
 -- The value of an expression is a word.
-use Rattle.std.proofs.Common.{◌≡◌, ℕ, ◌*◌, ◌<◌, Bool, true, false, cond, List, [], ◌∷◌, ◌++◌, length, Option, Some, None, Result, Ok, Err, IfOk, refl, subst, arith, lit<}
-use Rattle.std.specs.Prelude.{nat_le, not, ◌==◌, ◌&&◌}
+use Rattle.range_laws.proofs.Common.{[], AreBytes, arith, Bool, bytes_at, cond, Err, false, flag, has_bytes, IfOk, IsWord, length, List, lit<, little_endian, nat_le, nat_tests, None, not, Ok, Option, places, refl, Result, Some, subst, true, ℕ, ◌&&◌, ◌*◌, ◌++◌, ◌<◌, ◌==◌, ◌∷◌, ◌≡◌}
 use Rattle.std.specs.Char.{is_digit}
 use Rattle.std.specs.List.{list_all}
 use Rattle.std.specs.Str.Parse.{digits_value}
-use Rattle.std.proofs.lemmas.Bool.Decides.{nat_tests}
-use Rattle.image.specs.Memory.{bytes_at, has_bytes, little_endian}
 use Rattle.numerals.specs.Numerals.{magnitude, magnitude_by, numeral, prefixed, within}
 use Rattle.numerals.specs.declared.NumeralError.{NumeralError}
 use Rattle.numerals.specs.declared.NumeralError.TheVariants.{Malformed, TooLarge}
@@ -22,8 +19,6 @@ use Rattle.expressions.specs.declared.token.Prefix.{Prefix}
 use Rattle.expressions.specs.declared.token.Prefix.TheVariants.{Negate, Complement, Not}
 use Rattle.expressions.specs.declared.token.Token.{Token}
 use Rattle.expressions.specs.declared.token.Token.TheVariants as t
-use Rattle.rv32i.specs.Machine.{flag, places}
-use Rattle.range_laws.specs.Machines.{AreBytes, IsWord}
 use Rattle.range_laws.specs.Values.{HasWords, TreesHaveWords, ValuesAreWords}
 use Rattle.range_laws.proofs.Words.{and_word, difference_word, flag_word, left_word, or_word, register_word, right_word, sum_word, word_read, wrapped, xor_word}
 
@@ -96,17 +91,12 @@ between_word AndThen a b h k = flag_word (is_true b)
 between_word Or a b h k = or_word a b h k
 between_word Xor a b h k = xor_word a b h k
 between_word And a b h k = and_word a b h k
-between_word Equal a b h k = flag_word _
-between_word NotEqual a b h k = flag_word _
-between_word Less a b h k = flag_word _
-between_word LessEqual a b h k = flag_word _
-between_word Greater a b h k = flag_word _
-between_word GreaterEqual a b h k = flag_word _
 between_word ShiftLeft a b h k = left_word a (places b)
 between_word ShiftRight a b h k = right_word a (places b) h
 between_word Plus a b h k = sum_word a b
 between_word Minus a b h k = difference_word a b
 between_word Times a b h k = wrapped (a * b)
+between_word _ a b h k = flag_word _
 
 -- ---- values
 

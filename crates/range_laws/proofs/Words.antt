@@ -1,17 +1,10 @@
 -- What is made of words and bytes is words and bytes.
-use Rattle.std.proofs.Common.{◌≡◌, ℕ, zero, suc, ◌+◌, ◌-◌, ◌*◌, ◌/◌, ◌%◌, ◌^◌, ◌<◌, ◌≤◌, Bool, true, false, cond, eqb, ltb, List, [], ◌∷◌, ◌++◌, length, refl, sym, subst, arith, lit<, ltb-true}
-use Rattle.std.specs.Prelude.{◌≤ℤ◌, ℤ, pos, negsuc, bit_and, bit_or, bit_xor, drop, replicate, slice_index, slice_set, take}
+use Rattle.range_laws.proofs.Common.{[], All-append, All-cons, All-drop, All-get_or, All-head, All-nil, All-replicate, All-set, All-tail, All-take, AreBytes, AreRegisters, AreWords, arith, bit_and, bit_or, bit_xor, Bool, byte_extended, bytes_at, cond, difference, drop, eqb, false, first_address, flag, get_or_past, halfword_bytes, halfword_extended, IsByte, IsWord, length, length-set, List, lit<, little_endian, ltb, ltb-true, nat_tests, negsuc, pos, refl, replicate, shifted_left, shifted_right, shifted_right_signed, signed, slice_index, slice_set, subst, suc, sum, sym, take, true, with_bytes, with_register, word_bytes, zero, ℕ, ℤ, ◌%◌, ◌*◌, ◌++◌, ◌+◌, ◌-◌, ◌/◌, ◌<◌, ◌^◌, ◌∷◌, ◌≡◌, ◌≤ℤ◌, ◌≤◌}
 use Rattle.std.specs.Int.{cast_unsigned, int_shr, w32}
 use Rattle.std.specs.Int.Bits.{and_lt}
 use Rattle.std.proofs.Math.Nat.{div-le_self}
-use Rattle.std.proofs.lemmas.Bool.Decides.{nat_tests}
 use Rattle.std.proofs.lemmas.Int.{ints}
-use Rattle.std.proofs.lemmas.List.{get_or_past, length-set}
-use Rattle.std.proofs.lemmas.List.Elements.{All-append, All-cons, All-drop, All-get_or, All-head, All-nil, All-replicate, All-set, All-tail, All-take}
 use Rattle.std.proofs.lemmas.Nat.{or_of_32, xor_of_32}
-use Rattle.image.specs.Memory.{bytes_at, first_address, halfword_bytes, little_endian, with_bytes, word_bytes}
-use Rattle.rv32i.specs.Machine.{byte_extended, difference, flag, halfword_extended, shifted_left, shifted_right, shifted_right_signed, signed, sum, with_register}
-use Rattle.range_laws.specs.Machines.{AreBytes, AreRegisters, AreWords, IsByte, IsWord}
 
 -- ---- operations
 
@@ -65,7 +58,7 @@ bytes_in_range memory address bytes h k =
     (All-append IsByte kept bytes (All-take IsByte (address - first_address) memory h) k)
     (All-drop IsByte (address - first_address + length bytes) memory h)
 
--- what so many bytes are below
+-- what this many bytes are below
 abbrev pub limit : ℕ → ℕ
 limit zero = 1
 limit (suc n) = 256 * limit n
@@ -82,7 +75,7 @@ taken_below (suc n) (b ∷ bytes) h =
     let rest = taken_below n bytes (All-tail IsByte b bytes h) in
     omega (arith, first, rest)
 
--- the value of so many bytes from an address on
+-- the value of n bytes from an address on
 pub read_below : (n : ℕ) (memory : List ℕ) (address : ℕ) → AreBytes memory → little_endian (bytes_at memory address n) < limit n
 read_below n memory address h = taken_below n (drop (address - first_address) memory) (All-drop IsByte (address - first_address) memory h)
 

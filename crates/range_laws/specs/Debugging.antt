@@ -1,6 +1,6 @@
 -- A debugged machine in range, with its past.
 --
--- Beside its hart and its memory a debugged machine has calls, no more than it keeps, each of which is the address of the
+-- Beside its hart and its memory a debugged machine has calls, no more than it keeps, each the address of the
 -- instruction that called, and a size, which says where its memory ends and so what sp is when a program is loaded. What a debugger does
 -- to it, a tick, bytes that are written, registers that are set, an image that is loaded anew, leaves all these words
 -- and bytes. Breakpoints, their hits, the goal of a run and what was counted are no part of this.
@@ -31,7 +31,7 @@ pub record ImageInRange (image : Image) : Type 0 where
   pub entry : IsWord image.entry
   pub bytes : AreBytes image.bytes
 
--- calls that are kept: 256 at most, each of which is an address
+-- calls that are kept: 256 addresses at most
 pub record CallsInRange (calls : List ℕ) : Type 0 where
   pub words : AreWords calls
   pub few : length calls ≤ 256
@@ -42,7 +42,7 @@ pub record PositionInRange (p : Position) : Type 0 where
   pub calls : CallsInRange p.calls.calls
 
 -- A debugged machine whose hart, memory and calls are in range, as they were before each of its recorded moves, which lead
--- here, 65,536 at most; and the end of whose memory is an address.
+-- here, 65,536 at most; and whose memory ends at an address.
 pub record DebuggedInRange (d : Debugged) : Type 0 where
   pub machine : InRange (machine_of d.hart d.memory)
   pub calls : CallsInRange d.calls.calls

@@ -24,7 +24,7 @@ AreWords list = All IsWord list
 abbrev pub AreBytes : List ℕ → Type 0
 AreBytes list = All IsByte list
 
--- 32 registers, each of which is a word
+-- 32 registers, all of them words
 pub record AreRegisters (x : List ℕ) : Type 0 where
   pub count : length x ≡ 32
   pub words : AreWords x

@@ -25,7 +25,7 @@ RequestsGiveBytes =
 abbrev pub TextsGiveWords : Type 0
 TextsGiveWords = (text : List ℕ) → IfSome (value_of text) IsWord
 
--- and registers of which one is set to a word are words.
+-- and registers are words when one of them is set to a word.
 abbrev pub RegistersStayInRange : Type 0
 RegistersStayInRange =
     (x : List ℕ) (number value : ℕ) → IsWord value → AreRegisters x → AreRegisters (slice_set x number value)

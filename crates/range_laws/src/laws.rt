@@ -45,7 +45,7 @@ pub fn requests_give_bytes()
     ensures { RequestsGiveBytes }
 {}
 
-/// The value that an editor's text writes is a word, and registers of which one is set to a word stay words.
+/// The value that an editor's text writes is a word, and registers stay words when one of them is set to a word.
 pub fn settings_are_in_range()
     ensures values { TextsGiveWords }
     ensures registers { RegistersStayInRange }

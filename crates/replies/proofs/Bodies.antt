@@ -1,9 +1,7 @@
 -- Bytes that have a JSON value are read as that value.
-use Rattle.std.proofs.Common.{◌≡◌, ℕ, List, Bool, true, false, Some, None, refl, sym, ◌∙◌}
+use Rattle.replies.proofs.Common.{Bool, Data, false, List, None, read, refl, Some, sym, true, ℕ, ◌∙◌, ◌≡◌}
 use Rattle.std.proofs.lemmas.Str.{IsUtf8-from_is_utf8}
 use Rattle.std.specs.Str.{is_utf8}
-use Rattle.serde_json.specs.Data.{Data}
-use Rattle.serde_json.specs.Read.{read}
 use Rattle.protocol.specs.Json.{json_of}
 use Rattle.protocol.proofs.JsonTexts.{json_of-text}
 

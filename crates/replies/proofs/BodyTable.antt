@@ -1,23 +1,11 @@
 -- The table of bodies: each is plain JSON, and a message that has one is taken for it.
-use Rattle.std.proofs.Common.{◌≡◌, ℕ, ◌≤◌, List, [], ◌∷◌, Bool, true, false, ◌||◌, Option, Some, None, IfSome, IsTrue, option_map, option_and_then, codes, bytes_eq, refl, sym, ◌∙◌, subst, arith}
-use Rattle.std.specs.Prelude.{if◌then◌else◌, not}
-use Rattle.std.specs.List.{AllByRecursion, list_all, list_any}
-use Rattle.std.proofs.lemmas.Bool.{and_parts}
+use Rattle.replies.proofs.Common.{[], all_taken, AllByRecursion, and_parts, AreTexts, arith, body_data, body_in, Bool, bytes_eq, Data, depth, false, Form, formed, get, has_float, has_numbers, IfSome, if◌then◌else◌, is_ordered, IsBodyOf, IsPlain, IsPlain-is_simple, IsTrue, Lawful, List, list_all, list_any, member_if, None, not, object, Option, option_and_then, option_map, refl, ResponseBody, Row, shared_members, Some, subst, surely, sym, Taken, texts_in, true, without_body, ℕ, ◌||◌, ◌∙◌, ◌∷◌, ◌≡◌, ◌≤◌}
+use Rattle.std.proofs.Common.{codes}
 use Rattle.std.proofs.lemmas.Slice.Eq.{bytes_eq-Decides}
-use Rattle.serde_json.specs.Data.{Data, object, depth}
-use Rattle.serde_json.specs.Find.{get}
-use Rattle.serde_json.specs.Written.{has_float}
-use Rattle.replies.specs.declared.response.ResponseBody.{ResponseBody}
 use Rattle.replies.specs.declared.response.ResponseBody.TheVariants as kind
-use Rattle.message_parts.specs.Forms.{Form, AreTexts, member_if}
-use Rattle.replies.specs.Bodies.{Row, Taken, IsBodyOf, all_taken, body_data, body_in, formed, has_numbers, surely, taken_among, texts_in, without_body}
-use Rattle.message_parts.specs.Order.{is_ordered}
-use Rattle.replies.specs.Responses.{shared_members}
+use Rattle.replies.specs.Bodies.{taken_among}
 use Rattle.replies.proofs.ByBody.{by_body, by_taken}
 use Rattle.replies.proofs.HasForm.{HasForm, IsAlways}
-use Rattle.message_parts.proofs.Lawful.{Lawful}
-use Rattle.message_parts.proofs.Simple.{IsPlain-is_simple}
-use Rattle.message_parts.proofs.Texts.{IsPlain}
 
 -- what a response needs to know of its body
 pub record IsGood (d : Data) : Type 0 where

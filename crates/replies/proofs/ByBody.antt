@@ -1,11 +1,7 @@
 -- What holds of each kind of body holds of all: the one list of bodies in proofs.
-use Rattle.std.proofs.Common.{ℕ, List, codes, refl, arith}
-use Rattle.std.specs.List.{AllByRecursion}
-use Rattle.serde_json.specs.Data.{Data}
-use Rattle.replies.specs.declared.response.ResponseBody.{ResponseBody}
+use Rattle.replies.proofs.Common.{all_taken, AllByRecursion, arith, Data, Form, formed, List, refl, ResponseBody, surely, Taken, ℕ}
+use Rattle.std.proofs.Common.{codes}
 use Rattle.replies.specs.declared.response.ResponseBody.TheVariants as kind
-use Rattle.replies.specs.Bodies.{Taken, all_taken, formed, surely}
-use Rattle.message_parts.specs.Forms.{Form}
 use Rattle.message_parts.specs.Initialize.{initialize_body}
 use Rattle.message_parts.specs.Threads.{threads_body}
 use Rattle.message_parts.specs.Continue.{continue_body}

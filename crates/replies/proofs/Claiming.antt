@@ -1,24 +1,13 @@
 -- A value that is a message claims to be that one, and what a value claims to be is in order.
-use Rattle.std.proofs.Common.{◌≡◌, ℕ, ◌^◌, ◌<◌, ◌&&◌, List, Bool, true, false, cond, nat_lt, Option, Some, None, is_some, option_map, option_and_then, IfSome, bytes_eq, codes, refl, ap, arith, lt-ltb, ltb-true}
-use Rattle.std.proofs.lemmas.Bool.{and_parts}
-use Rattle.serde_json.specs.Data.{Data, object}
-use Rattle.serde_json.specs.Find.{get}
-use Rattle.message_parts.specs.Forms.{member_if, whole, is_word}
-use Rattle.message_parts.proofs.Lawful.{lawful_whole, then_is}
+use Rattle.replies.proofs.Common.{and_parts, ap, arith, body_data, body_in, Bool, bytes_eq, cond, Data, event_body, event_name, false, get, has_numbers, IfSome, is_some, is_word, IsBodyOf, IsNumber, IsOutcomeOf, IsProper, IsProperEvent, IsProperResponse, lawful_whole, List, lt-ltb, ltb-true, member_if, Message, message_data, nat_lt, None, object, Option, option_and_then, option_map, outcome_data, refl, Refusal, ResponseBody, shared_members, Some, then_is, true, whole, ℕ, ◌<◌, ◌^◌, ◌≡◌}
+use Rattle.std.proofs.Common.{◌&&◌, codes}
 use Rattle.protocol.specs.Properties.{◌>>=◌}
 use Rattle.protocol.specs.Refusals.{has_text, the_refusal_of_its_number}
-use Rattle.protocol.specs.declared.refusal.Refusal.{Refusal}
-use Rattle.replies.specs.declared.message.Message.{Message}
 use Rattle.replies.specs.declared.message.Message.TheVariants.{Response, Event}
 use Rattle.replies.specs.declared.event.Event as event
 use Rattle.replies.specs.declared.response.Response as response
 use Rattle.replies.specs.declared.response.Outcome.{Outcome}
 use Rattle.replies.specs.declared.response.Outcome.TheVariants.{Done, Refused}
-use Rattle.replies.specs.declared.response.ResponseBody.{ResponseBody}
-use Rattle.replies.specs.Messages.{message_data, IsNumber, IsProper}
-use Rattle.replies.specs.Bodies.{IsBodyOf, body_data, body_in, has_numbers}
-use Rattle.replies.specs.Responses.{shared_members, outcome_data, IsOutcomeOf, IsProperResponse}
-use Rattle.replies.specs.Events.{IsProperEvent, event_body, event_name}
 use Rattle.replies.proofs.BodyTable.{body_in-done, body_in-proper}
 use Rattle.replies.proofs.EventTable.{event_named-event_data, event_named-proper, with_body}
 use Rattle.replies.specs.Claims.{kept_if, number_at, text_at, truth_at, seq_in, own_text, refusal_in, refused_in, error_in, outcome_in, response_in, event_in, message_of, claim_in}

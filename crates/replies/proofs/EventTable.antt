@@ -1,22 +1,15 @@
 -- The table of events: each body is plain JSON, and a message that is an event is taken for it.
-use Rattle.std.proofs.Common.{◌≡◌, ℕ, List, [], ◌∷◌, Bool, true, false, Option, Some, None, IfSome, IsUtf8, option_map, option_and_then, codes, bytes_eq, refl, arith}
-use Rattle.std.specs.Prelude.{if◌then◌else◌}
-use Rattle.json.proofs.Printed.Utf8.{IsUtf8-are_ascii}
-use Rattle.serde_json.specs.Data.{Data, object}
-use Rattle.serde_json.specs.Find.{get}
+use Rattle.replies.proofs.Common.{[], AreTexts, arith, Bool, bytes_eq, Data, event_body, event_data, event_members, event_name, event_named, event_texts, false, Form, get, IfSome, if◌then◌else◌, IsPlain, IsPlain-is_simple, IsProperEvent, IsUtf8, IsUtf8-are_ascii, Lawful, List, member_if, None, object, Option, option_and_then, option_map, refl, Some, taken_among, true, ℕ, ◌∷◌, ◌≡◌}
+use Rattle.std.proofs.Common.{codes}
 use Rattle.replies.specs.declared.event.Event.{Event}
 use Rattle.replies.specs.declared.event.Event.TheVariants.{Initialized, Stopped, Continued, Output, Exited, Terminated}
-use Rattle.message_parts.specs.Forms.{Form, AreTexts, member_if}
 use Rattle.message_parts.specs.Stopped.{stopped}
 use Rattle.message_parts.specs.Continued.{continued_body}
 use Rattle.message_parts.specs.Output.{output}
 use Rattle.message_parts.specs.Exited.{exited}
-use Rattle.replies.specs.Events.{Taken, IsProperEvent, all_taken, event_body, event_data, event_members, event_name, event_named, event_texts, formed, taken_among}
+use Rattle.replies.specs.Events.{Taken, all_taken, formed}
 use Rattle.replies.proofs.BodyTable.{IsGood, good}
-use Rattle.message_parts.proofs.Lawful.{Lawful}
 use Rattle.replies.proofs.LawfulEvents.{lawful_stopped, lawful_output, lawful_exited}
-use Rattle.message_parts.proofs.Simple.{IsPlain-is_simple}
-use Rattle.message_parts.proofs.Texts.{IsPlain}
 
 pub IsGood-event_body : (event : Event) → IfSome (event_body event) IsGood
 IsGood-event_body Initialized = tt

@@ -1,11 +1,7 @@
 -- What a value is read as is the message that it is, and none where it is none.
-use Rattle.std.proofs.Common.{◌≡◌, ℕ, List, Bool, true, false, cond, Option, Some, None, Ok, refl, sym, ap, ◌∙◌}
-use Rattle.serde_json.specs.Data.{Data}
+use Rattle.replies.proofs.Common.{ap, Bool, cond, Data, false, IsNumber, IsProper, json_of, List, Message, message_data, None, Ok, Option, refl, Some, sym, true, ℕ, ◌∙◌, ◌≡◌}
 use Rattle.protocol.specs.declared.request.MessageError.TheVariants.{NotAMessage}
-use Rattle.replies.specs.declared.message.Message.{Message}
 use Rattle.std.specs.Option.{ok_or}
-use Rattle.protocol.specs.Json.{json_of}
-use Rattle.replies.specs.Messages.{message_data, IsNumber, IsProper}
 use Rattle.replies.specs.Claims.{kept_if, claim_in}
 use Rattle.replies.specs.Reading.{IsMessage, ReadsAs, message_in, reading_in, reading_of}
 use Rattle.replies.proofs.Claiming.{claim_in-message_data, claim_in-proper}

@@ -1,13 +1,5 @@
 -- How the table of bodies has a body: in a form that is lawful, or always the same.
-use Rattle.std.proofs.Common.{◌≡◌, ℕ, ◌≤◌, List, true, false, Some}
-use Rattle.serde_json.specs.Data.{Data, depth}
-use Rattle.serde_json.specs.Written.{has_float}
-use Rattle.replies.specs.declared.response.ResponseBody.{ResponseBody}
-use Rattle.replies.specs.Bodies.{always, body_in, formed, in_form, row}
-use Rattle.message_parts.specs.Forms.{Form}
-use Rattle.message_parts.specs.Order.{is_ordered}
-use Rattle.message_parts.proofs.Lawful.{Lawful}
-use Rattle.message_parts.proofs.Simple.{is_simple}
+use Rattle.replies.proofs.Common.{always, body_in, Data, depth, false, Form, formed, has_float, in_form, is_ordered, is_simple, Lawful, List, ResponseBody, row, Some, true, ℕ, ◌≡◌, ◌≤◌}
 
 -- the bodies that are made of such values, after a success of this command
 pub record HasForm (n : ℕ) (command : List ℕ) {A : Type 0} (form : Form A) (make : A → ResponseBody) : Type 0 where

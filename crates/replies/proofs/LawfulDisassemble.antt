@@ -1,14 +1,10 @@
 -- The body of `disassemble`: its form is lawful.
-use Rattle.std.proofs.Common.{◌≡◌, ℕ, List, true, ◌⊎◌, inl, inr, IfSome, refl, arith}
-use Rattle.std.specs.Prelude.{Some, codes}
-use Rattle.json.proofs.Printed.Utf8.{IsUtf8-are_ascii}
-use Rattle.message_parts.specs.Forms.{either}
+use Rattle.replies.proofs.Common.{arith, codes, either, IfSome, inl, inr, IsUtf8-are_ascii, Lawful, lawful_address, lawful_either, lawful_field, lawful_fixed, lawful_list, lawful_made_of, lawful_none, lawful_object, lawful_text, LawfulFields, List, refl, true, ℕ, ◌≡◌, ◌⊎◌}
+use Rattle.std.specs.Prelude.{Some}
 use Rattle.message_parts.specs.declared.disassemble.Instruction.{Instruction}
 use Rattle.message_parts.specs.declared.disassemble.Instruction.TheVariants as an_entry
 use Rattle.message_parts.specs.Disassemble as words
-use Rattle.message_parts.proofs.Addresses.{lawful_address}
 use Rattle.message_parts.proofs.InstructionBytes.{lawful_instruction_bytes}
-use Rattle.message_parts.proofs.Lawful.{Lawful, LawfulFields, lawful_text, lawful_list, lawful_none, lawful_field, lawful_fixed, lawful_object, lawful_either, lawful_made_of}
 use Rattle.replies.specs.declared.response.ResponseBody.TheVariants as body
 use Rattle.replies.proofs.HasForm.{HasForm}
 

@@ -1,9 +1,7 @@
 -- The forms of the events' bodies are lawful.
-use Rattle.std.proofs.Common.{◌≡◌, ℕ, List, Option, true, codes, refl, arith}
+use Rattle.replies.proofs.Common.{are_ascii, arith, field, Fields, first_named, fixed, Lawful, lawful_field, lawful_fixed, lawful_list, lawful_made_of, lawful_none, lawful_object, lawful_one_of, lawful_optional, lawful_signed, lawful_text, lawful_unless_empty, lawful_whole, LawfulFields, List, none, number, Option, optional, refl, text, true, unless_empty, unsigned, whole, ℕ, ◌≡◌}
+use Rattle.std.proofs.Common.{codes}
 use Rattle.std.specs.Prelude.{Some}
-use Rattle.json.proofs.Printed.Utf8.{are_ascii}
-use Rattle.serde_json.specs.Data.{number, unsigned}
-use Rattle.message_parts.specs.Forms.{Fields, field, fixed, first_named, none, optional, text, unless_empty, whole}
 use Rattle.message_parts.specs.Stopped.{reason, reason_name, reasons, stopped}
 use Rattle.message_parts.specs.Output.{categories, category, category_name, output}
 use Rattle.message_parts.specs.declared.output.Category.{Category}
@@ -11,26 +9,15 @@ use Rattle.message_parts.specs.declared.output.Category.TheVariants.{Console, St
 use Rattle.message_parts.specs.Exited.{exited}
 use Rattle.message_parts.specs.declared.stopped.Reason.{Reason}
 use Rattle.message_parts.specs.declared.stopped.Reason.TheVariants.{Entry, Step, Breakpoint, InstructionBreakpoint, FunctionBreakpoint, Exception, Pause}
-use Rattle.message_parts.proofs.Lawful.{Lawful, LawfulFields, lawful_whole, lawful_signed, lawful_text, lawful_one_of, lawful_list, lawful_none, lawful_field, lawful_fixed, lawful_optional, lawful_unless_empty, lawful_object, lawful_made_of}
 
 -- the reason of a reason's name is that reason
 again : (r : Reason) → first_named reason_name reasons (reason_name r) ≡ Some r
 again Entry = refl
-again Step = refl
-again Breakpoint = refl
-again InstructionBreakpoint = refl
-again FunctionBreakpoint = refl
-again Exception = refl
-again Pause = refl
+again _ = refl
 
 ascii : (r : Reason) → are_ascii (reason_name r) ≡ true
 ascii Entry = refl
-ascii Step = refl
-ascii Breakpoint = refl
-ascii InstructionBreakpoint = refl
-ascii FunctionBreakpoint = refl
-ascii Exception = refl
-ascii Pause = refl
+ascii _ = refl
 
 lawful_reason : Lawful 1 reason
 lawful_reason = lawful_one_of reason_name reasons again ascii

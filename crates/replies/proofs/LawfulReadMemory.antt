@@ -1,16 +1,12 @@
 -- The body of `readMemory`: its form is lawful.
-use Rattle.std.proofs.Common.{◌≡◌, ℕ, ◌==◌, List, Option, None, Bool, true, false, refl, arith}
-use Rattle.std.specs.Prelude.{Some, codes, ◌&&◌, if◌then◌else◌}
-use Rattle.std.proofs.lemmas.Bool.{and_parts}
+use Rattle.replies.proofs.Common.{and_parts, arith, Bool, codes, false, field, if◌then◌else◌, is_in_if, is_word, Lawful, lawful_address, lawful_field, lawful_made_of, lawful_none, lawful_object, lawful_optional, lawful_whole, LawfulFields, List, None, none, Option, optional, refl, true, whole, ℕ, ◌&&◌, ◌==◌, ◌≡◌}
+use Rattle.std.specs.Prelude.{Some}
 use Rattle.std.proofs.lemmas.Bool.Decides.{nat_tests}
 use Rattle.message_parts.specs.Addresses as addresses
 use Rattle.message_parts.specs.EncodedBytes.{are_bytes, encoded_bytes}
-use Rattle.message_parts.specs.Forms.{field, is_in_if, is_word, none, optional, whole}
 use Rattle.message_parts.specs.declared.read_memory.ReadMemory.{ReadMemory}
 use Rattle.message_parts.specs.ReadMemory.{or_0, read_memory, unless_0}
-use Rattle.message_parts.proofs.Addresses.{lawful_address}
 use Rattle.message_parts.proofs.EncodedBytes.{lawful_encoded_bytes}
-use Rattle.message_parts.proofs.Lawful.{Lawful, LawfulFields, lawful_whole, lawful_none, lawful_field, lawful_optional, lawful_object, lawful_made_of}
 use Rattle.replies.specs.declared.response.ResponseBody.TheVariants as body
 use Rattle.replies.proofs.HasForm.{HasForm}
 

@@ -1,12 +1,9 @@
 -- The body of `scopes`: its form is lawful.
-use Rattle.std.proofs.Common.{◌≡◌, ℕ, true, ◌⊎◌, inl, inr, IfSome, refl, arith}
-use Rattle.std.specs.Prelude.{Some, codes}
-use Rattle.json.proofs.Printed.Utf8.{IsUtf8-are_ascii}
-use Rattle.message_parts.specs.Forms.{either}
+use Rattle.replies.proofs.Common.{arith, codes, either, IfSome, inl, inr, IsUtf8-are_ascii, Lawful, lawful_either, lawful_field, lawful_fixed, lawful_list, lawful_made_of, lawful_none, lawful_object, lawful_whole, LawfulFields, refl, true, ℕ, ◌≡◌, ◌⊎◌}
+use Rattle.std.specs.Prelude.{Some}
 use Rattle.message_parts.specs.declared.scopes.Scope.{Scope}
 use Rattle.message_parts.specs.declared.scopes.Scope.TheVariants as a_scope
 use Rattle.message_parts.specs.Scopes as scopes
-use Rattle.message_parts.proofs.Lawful.{Lawful, LawfulFields, lawful_whole, lawful_list, lawful_none, lawful_field, lawful_fixed, lawful_object, lawful_either, lawful_made_of}
 use Rattle.replies.specs.declared.response.ResponseBody.TheVariants as body
 use Rattle.replies.proofs.HasForm.{HasForm}
 

@@ -1,13 +1,10 @@
 -- The body of `setBreakpoints`: its form is lawful.
-use Rattle.std.proofs.Common.{◌≡◌, ℕ, List, true, ◌⊎◌, inl, inr, IfSome, refl, arith}
-use Rattle.std.specs.Prelude.{Some, codes}
-use Rattle.message_parts.specs.Forms.{either}
+use Rattle.replies.proofs.Common.{arith, codes, either, IfSome, inl, inr, Lawful, lawful_address, lawful_either, lawful_field, lawful_fixed, lawful_list, lawful_made_of, lawful_none, lawful_object, lawful_text, lawful_whole, LawfulFields, List, refl, true, ℕ, ◌≡◌, ◌⊎◌}
+use Rattle.std.specs.Prelude.{Some}
 use Rattle.message_parts.specs.declared.set_breakpoints.SourceBreakpoint.{SourceBreakpoint}
 use Rattle.message_parts.specs.declared.set_breakpoints.SourceBreakpoint.TheVariants as at_line
 use Rattle.message_parts.specs.Breakpoints.{is_verified}
 use Rattle.message_parts.specs.SetBreakpoints as source
-use Rattle.message_parts.proofs.Addresses.{lawful_address}
-use Rattle.message_parts.proofs.Lawful.{Lawful, LawfulFields, lawful_whole, lawful_text, lawful_list, lawful_none, lawful_field, lawful_fixed, lawful_object, lawful_either, lawful_made_of}
 use Rattle.replies.specs.declared.response.ResponseBody.TheVariants as body
 use Rattle.replies.proofs.HasForm.{HasForm}
 

@@ -1,8 +1,6 @@
 -- The body of `setFunctionBreakpoints`: its form is lawful.
-use Rattle.std.proofs.Common.{refl, arith}
-use Rattle.std.specs.Prelude.{codes}
+use Rattle.replies.proofs.Common.{arith, codes, Lawful, lawful_field, lawful_list, lawful_made_of, lawful_none, lawful_object, refl}
 use Rattle.message_parts.specs.SetFunctionBreakpoints.{set_function_breakpoints}
-use Rattle.message_parts.proofs.Lawful.{Lawful, lawful_list, lawful_none, lawful_field, lawful_object, lawful_made_of}
 use Rattle.replies.proofs.LawfulSetInstructionBreakpoints.{lawful_instruction_breakpoint}
 use Rattle.replies.specs.declared.response.ResponseBody.TheVariants as body
 use Rattle.replies.proofs.HasForm.{HasForm}

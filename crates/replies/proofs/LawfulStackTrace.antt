@@ -1,9 +1,6 @@
 -- The body of `stackTrace`: its form is lawful.
-use Rattle.std.proofs.Common.{refl, arith}
-use Rattle.std.specs.Prelude.{codes}
+use Rattle.replies.proofs.Common.{arith, codes, Lawful, lawful_address, lawful_field, lawful_list, lawful_made_of, lawful_none, lawful_object, lawful_optional, lawful_text, lawful_whole, refl}
 use Rattle.message_parts.specs.StackTrace as frames
-use Rattle.message_parts.proofs.Addresses.{lawful_address}
-use Rattle.message_parts.proofs.Lawful.{Lawful, lawful_whole, lawful_text, lawful_list, lawful_none, lawful_field, lawful_optional, lawful_object, lawful_made_of}
 use Rattle.replies.specs.declared.response.ResponseBody.TheVariants as body
 use Rattle.replies.proofs.HasForm.{HasForm}
 

@@ -1,8 +1,6 @@
 -- The body of `writeMemory`: its form is lawful.
-use Rattle.std.proofs.Common.{refl, arith}
-use Rattle.std.specs.Prelude.{codes}
+use Rattle.replies.proofs.Common.{arith, codes, Lawful, lawful_field, lawful_made_of, lawful_none, lawful_object, lawful_whole, refl}
 use Rattle.message_parts.specs.WriteMemory.{write_memory}
-use Rattle.message_parts.proofs.Lawful.{Lawful, lawful_whole, lawful_none, lawful_field, lawful_object, lawful_made_of}
 use Rattle.replies.specs.declared.response.ResponseBody.TheVariants as body
 use Rattle.replies.proofs.HasForm.{HasForm}
 

@@ -1,16 +1,10 @@
 -- What a writer hands over at the end of a value, where it was empty at the start.
-use Rattle.std.proofs.Common.{◌≡◌, ℕ, List, [], ◌++◌, Some, IsUtf8, sym, ap, ◌∙◌, subst}
+use Rattle.replies.proofs.Common.{[], ap, compact_text, Data, IsUtf8, json_of, json_of-tokens, List, Message, message_data, Some, subst, sym, ℕ, ◌++◌, ◌∙◌, ◌≡◌}
 use Rattle.json.specs.Lex.{tokens}
 use Rattle.json.specs.Print.{print}
 use Rattle.json.specs.Written.{Written}
-use Rattle.serde_json.specs.Data.{Data}
-use Rattle.serde_json.specs.Written.{compact_text}
 use Rattle.serde_json.proofs.Texts.{print-outline}
 use Rattle.message_parts.specs.Written.{Appends, HasSmallNumbers, tokens_of}
-use Rattle.message_parts.proofs.Texts.{json_of-tokens}
-use Rattle.protocol.specs.Json.{json_of}
-use Rattle.replies.specs.declared.message.Message.{Message}
-use Rattle.replies.specs.Messages.{message_data}
 use Rattle.replies.proofs.Values.{is_ordered-message_data, depth-message_data}
 
 -- it has written this value, and nothing else

@@ -1,10 +1,5 @@
 -- What holds of every row of the table of refusals.
-use Rattle.std.proofs.Common.{◌≡◌, ℕ, ◌^◌, ◌<◌, nat_lt, Bool, true, false, List, [], ◌∷◌, Some, IsUtf8, refl, sym, ap, ◌∙◌, ltb-true}
-use Rattle.std.specs.Prelude.{nat_eq, if◌then◌else◌}
-use Rattle.std.proofs.lemmas.Bool.{and_parts}
-use Rattle.std.specs.List.{list_all}
-use Rattle.json.proofs.Printed.Utf8.{are_ascii, IsUtf8-are_ascii}
-use Rattle.protocol.specs.declared.refusal.Refusal.{Refusal}
+use Rattle.replies.proofs.Common.{[], and_parts, ap, are_ascii, Bool, false, if◌then◌else◌, IsUtf8, IsUtf8-are_ascii, List, list_all, ltb-true, nat_eq, nat_lt, refl, Refusal, Some, sym, true, ℕ, ◌<◌, ◌^◌, ◌∙◌, ◌∷◌, ◌≡◌}
 use Rattle.protocol.specs.Refusals.{refusals, id_of, name_of, numbered_among, the_refusal_of_its_number}
 
 -- a test that all in a list pass is passed by the one that is found in it

@@ -1,13 +1,8 @@
 -- `is_same` decides whether two values are one, where one of them has no float.
-use Rattle.std.proofs.Common.{◌≡◌, ℕ, List, Bool, true, false, Some, Decides, refl, sym, ap, ap₂, ◌∙◌}
-use Rattle.std.proofs.lemmas.Bool.{and_parts, or_parts, false≢true}
+use Rattle.replies.proofs.Common.{and_parts, ap, ap₂, array, Bool, boolean, compact_text, Data, Decides, false, false≢true, float, has_float, is_float, item, Items, items_have_float, List, member, Members, members_have_float, negative, no_items, no_members, null, Num, number, object, or_parts, read, refl, Some, string, sym, true, unsigned, ℕ, ◌∙◌, ◌≡◌}
 use Rattle.std.proofs.lemmas.Bool.Decides.{Decides-eqb, Decides-int_eq, same_from_decides}
 use Rattle.std.proofs.lemmas.Slice.Eq.{bytes_eq-Decides}
-use Rattle.serde_json.specs.Data.{Num, unsigned, negative, float, Data, null, boolean, number, string, array, object, Items, no_items, item, Members, no_members, member}
 use Rattle.std.specs.Str.{bytes_eq}
-use Rattle.serde_json.specs.Find.{is_float}
-use Rattle.serde_json.specs.Read.{read}
-use Rattle.serde_json.specs.Written.{compact_text, has_float, items_have_float, members_have_float}
 use Rattle.replies.specs.Same.{is_same_truth, is_same_number, is_same, are_same_items, are_same_members}
 
 truth_from : (a b : Bool) → is_same_truth a b ≡ true → a ≡ b

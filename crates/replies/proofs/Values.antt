@@ -1,23 +1,10 @@
 -- What holds of the JSON value of each message: it nests little, has no float, its names rise, and it is plain.
-use Rattle.std.proofs.Common.{◌≡◌, ℕ, ◌^◌, ◌<◌, ◌≤◌, List, Bool, true, false, Option, Some, None, IfSome, IsUtf8, codes, refl, arith}
-use Rattle.json.proofs.Printed.Utf8.{are_ascii, IsUtf8-are_ascii}
-use Rattle.serde_json.specs.Data.{Data, object, depth}
-use Rattle.serde_json.specs.Read.{max_depth}
-use Rattle.serde_json.specs.Written.{has_float}
-use Rattle.message_parts.specs.Forms.{member_if}
-use Rattle.message_parts.proofs.Texts.{json_of-compact_text, IsPlain, AreMembersPlain}
-use Rattle.protocol.specs.declared.refusal.Refusal.{Refusal}
-use Rattle.replies.specs.declared.message.Message.{Message}
+use Rattle.replies.proofs.Common.{are_ascii, AreMembersPlain, arith, body_data, Bool, Data, depth, event_body, event_members, event_name, false, format_of, has_float, IfSome, is_ordered, IsNumber, IsOutcomeOf, IsPlain, IsProper, IsUtf8, IsUtf8-are_ascii, json_of, json_of-compact_text, List, max_depth, member_if, Message, message_data, None, object, Option, outcome_data, refl, Refusal, shared_members, Some, text_of, true, ℕ, ◌<◌, ◌^◌, ◌≡◌, ◌≤◌}
+use Rattle.std.proofs.Common.{codes}
 use Rattle.replies.specs.declared.message.Message.TheVariants.{Response, Event}
 use Rattle.replies.specs.declared.response.Outcome.{Outcome}
 use Rattle.replies.specs.declared.response.Outcome.TheVariants.{Done, Refused}
-use Rattle.message_parts.specs.Order.{is_ordered}
 use Rattle.replies.specs.Laws.{HasOutcomeTexts, HasTexts}
-use Rattle.protocol.specs.Json.{json_of}
-use Rattle.replies.specs.Messages.{message_data, text_of, IsNumber, IsProper}
-use Rattle.replies.specs.Bodies.{body_data}
-use Rattle.replies.specs.Responses.{shared_members, format_of, outcome_data, IsOutcomeOf}
-use Rattle.replies.specs.Events.{event_body, event_members, event_name}
 use Rattle.replies.proofs.BodyTable.{IsGood, IsGood-body_data, IsPlain-body_data}
 use Rattle.replies.proofs.EventTable.{IsGood-event_body, IsPlain-event_body, text-event_name, with_body}
 use Rattle.replies.proofs.Refusals.{text-name_of, small-id_of}

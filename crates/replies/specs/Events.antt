@@ -1,7 +1,7 @@
 -- The events of the adapter, in one table.
 --
 -- An event tells the editor what no request asked for (DAP specification, `Event`): that the adapter is ready for the
--- editor's settings (`initialized`), that the machine stopped or went on, what the program printed or a logpoint
+-- editor's settings (`initialized`), that the machine stopped or continues, what the program printed or a logpoint
 -- writes, that the program exited and with which code, and that it has ended (`terminated`). It has a name, and a body
 -- or none. How each body is written stands in the file of its name.
 --

@@ -1,6 +1,6 @@
 -- What the adapter sends, as JSON and as bytes: responses to requests, and events.
 
--- ---- the tables of bodies, each of which is of `message_parts`, in the file of its name
+-- ---- the tables of bodies; each body is from `message_parts`, in the file of its name
 -- which body each request has
 pub mod Bodies
 -- which body each event has

@@ -23,7 +23,7 @@ pub enum Event {
     Initialized,
     /// The machine stopped (`StoppedEvent`).
     Stopped(Stopped),
-    /// The machine goes on (`ContinuedEvent`).
+    /// The machine continues (`ContinuedEvent`).
     Continued,
     /// The program printed something, or the adapter has something to say (`OutputEvent`).
     Output(Output),
@@ -37,9 +37,9 @@ pub enum Event {
 const INITIALIZED: &str = "initialized";
 /// The name of the event that the machine stopped.
 const STOPPED: &str = "stopped";
-/// The name of the event that the machine goes on.
+/// The name of the event that the machine continues.
 const CONTINUED: &str = "continued";
-/// The name of the event that there is a text to show.
+/// The name of the event with a text to show.
 const OUTPUT: &str = "output";
 /// The name of the event that the program exited.
 const EXITED: &str = "exited";

@@ -1,7 +1,6 @@
 //! Responses: what the adapter answers to requests.
 ghost use Rattle.std.specs.Prelude.{◌≡◌, None, IfOk};
 ghost use Rattle.protocol.specs.Commands.{name_of};
-ghost use Rattle.replies.specs.declared.response.Response as declared;
 
 use message_parts::{
     Disassemble, Evaluate, ReadMemory, Scopes, SetBreakpoints, SetFunctionBreakpoints,
@@ -18,7 +17,7 @@ pub enum ResponseBody {
     Initialize,
     /// Which threads there are (`ThreadsResponse`).
     Threads,
-    /// That every thread goes on (`ContinueResponse`).
+    /// Every thread continues (`ContinueResponse`).
     Continue,
     /// What became of the breakpoints of a source (`SetBreakpointsResponse`).
     SetBreakpoints(SetBreakpoints),

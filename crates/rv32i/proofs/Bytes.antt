@@ -1,11 +1,7 @@
 -- One byte of memory as a load reads it.
-use Rattle.std.proofs.Common.{◌≡◌, ℕ, suc, zero, ◌+◌, ◌-◌, ◌*◌, ◌%◌, ◌<◌, ◌≤◌, Bool, true, false, cond, leb, ltb, eqb, List, [], ◌∷◌, length, take, drop, Option, Some, None, Ok, Err, refl, ap, ◌⊎◌, inl, inr, arith}
-use Rattle.std.specs.Prelude.{slice_get}
-use Rattle.std.proofs.lemmas.Bool.Decides.{nat_tests}
-use Rattle.image.specs.Memory.{byte_at}
+use Rattle.rv32i.proofs.Common.{[], ap, arith, Bool, byte_at, cond, drop, eqb, Err, false, inl, inr, leb, length, List, LoadOutside, ltb, nat_tests, None, Ok, Option, refl, slice_get, Some, suc, take, true, zero, ℕ, ◌%◌, ◌*◌, ◌+◌, ◌-◌, ◌<◌, ◌∷◌, ◌≡◌, ◌≤◌, ◌⊎◌}
 use Rattle.rv32i.specs.Steps.{loaded}
 use Rattle.rv32i.specs.declared.performing.Halt.TheVariants.{Stopped}
-use Rattle.rv32i.specs.declared.stepped.Cause.TheVariants.{LoadOutside}
 
 pub record Found (bytes : List ℕ) (k byte : ℕ) : Type 0 where
   pub below : k < length bytes

@@ -1,10 +1,6 @@
 -- A text that names a register has it as its candidate.
-use Rattle.std.proofs.Common.{◌≡◌, ℕ, ◌<◌, zero, suc, Bool, true, false, ◌==◌, ◌&&◌, List, refl, ap, sym, ◌∙◌, subst, arith, ◌⊎◌, inl, inr, ◌%◌}
-use Rattle.std.proofs.lemmas.Bool.Decides.{nat_tests}
-use Rattle.std.specs.Prelude.{codes}
-use Rattle.rv32i.specs.Names.{Names, name_of, numbered_name_of}
-use Rattle.rv32i.specs.Candidates.{candidate}
-use Rattle.rv32i.specs.Laws.{NameIsUnique}
+use Rattle.rv32i.proofs.Common.{ap, arith, Bool, codes, false, inl, inr, List, name_of, NameIsUnique, Names, nat_tests, numbered_name_of, refl, subst, suc, sym, true, zero, ℕ, ◌%◌, ◌&&◌, ◌<◌, ◌==◌, ◌∙◌, ◌≡◌, ◌⊎◌}
+use Rattle.rv32i.specs.Private.Candidates.{candidate}
 
 and_left : (x y : Bool) → (x && y) ≡ true → x ≡ true
 and_left true y h = refl

@@ -1,17 +1,7 @@
 -- An exit code has 32 bits.
-use Rattle.std.proofs.Common.{◌≡◌, ℕ, Bool, true, false, cond, eqb, List, Option, Some, None, Result, Ok, Err, sym, arith, subst}
-use Rattle.std.specs.Prelude.{◌%◌, MatchResult}
+use Rattle.rv32i.proofs.Common.{Add, Addi, And, Andi, arith, Auipc, Beq, Bge, Bgeu, Blt, Bltu, Bne, Bool, branches, calls, cond, Ebreak, Ecall, Effect, effect_of, Encodes, eqb, Err, Exit, ExitCodesAreWords, false, fault_at, Fence, fetch_fault, HasCode, Illegal, Instr, IsDecoding, IsIllegal, Jal, Jalr, JumpMisaligned, jumps, Lb, Lbu, Lh, Lhu, linked, List, loads_unless, Lui, Lw, Machine, MatchResult, MemFault, Misaligned, NoMemory, None, Ok, Option, Or, Ori, Outside, Printed, Result, retired, Sb, Sh, signed, Sll, Slli, Slt, Slti, Sltiu, Sltu, Some, Sra, Srai, Srl, Srli, stores_unless, Sub, subst, sum, Sw, sym, trapped, true, UnknownCall, value, word_at, Xor, Xori, ℕ, ◌≡◌}
+use Rattle.std.specs.Prelude.{◌%◌}
 use Rattle.std.proofs.lemmas.Int.{ints}
-use Rattle.image.specs.Memory.{fault_at, word_at}
-use Rattle.image.specs.declared.fault.MemFault.{MemFault}
-use Rattle.image.specs.declared.fault.MemFault.TheVariants.{Misaligned, Outside, NoMemory}
-use Rattle.rv32i.specs.Encoding.{Encodes, IsDecoding, IsIllegal}
-use Rattle.rv32i.specs.Laws.{HasCode, ExitCodesAreWords}
-use Rattle.rv32i.specs.Machine.{Machine, Effect, effect_of, fetch_fault, retired, trapped, jumps, linked, branches, loads_unless, stores_unless, calls, signed, sum, value}
-use Rattle.rv32i.specs.declared.instr.Instr.{Instr}
-use Rattle.rv32i.specs.declared.instr.Instr.TheVariants.{Jal, Jalr, Beq, Bne, Blt, Bge, Bltu, Bgeu, Lb, Lh, Lw, Lbu, Lhu, Sb, Sh, Sw, Ecall, Lui, Auipc, Addi, Slti, Sltiu, Xori, Ori, Andi, Slli, Srli, Srai, Add, Sub, Sll, Slt, Sltu, Xor, Srl, Sra, Or, And, Fence, Ebreak}
-use Rattle.rv32i.specs.declared.stepped.Cause.TheVariants.{Illegal, JumpMisaligned, UnknownCall}
-use Rattle.rv32i.specs.declared.stepped.Stepped.TheVariants.{Exit, Printed}
 use Rattle.rv32i.proofs.Moving.{the_decoding}
 
 abbrev Codes : Effect → Type 0
@@ -69,29 +59,7 @@ codes_of (Sb rs1 rs2 imm) m = stores_code (fault_at m.memory 1 (sum (value rs1 m
 codes_of (Sh rs1 rs2 imm) m = stores_code (fault_at m.memory 2 (sum (value rs1 m) imm) 2) _ _ m
 codes_of (Sw rs1 rs2 imm) m = stores_code (fault_at m.memory 4 (sum (value rs1 m) imm) 4) _ _ m
 codes_of Ecall m = calls_code m
-codes_of (Lui rd imm) m = tt
-codes_of (Auipc rd imm) m = tt
-codes_of (Addi rd rs1 imm) m = tt
-codes_of (Slti rd rs1 imm) m = tt
-codes_of (Sltiu rd rs1 imm) m = tt
-codes_of (Xori rd rs1 imm) m = tt
-codes_of (Ori rd rs1 imm) m = tt
-codes_of (Andi rd rs1 imm) m = tt
-codes_of (Slli rd rs1 shamt) m = tt
-codes_of (Srli rd rs1 shamt) m = tt
-codes_of (Srai rd rs1 shamt) m = tt
-codes_of (Add rd rs1 rs2) m = tt
-codes_of (Sub rd rs1 rs2) m = tt
-codes_of (Sll rd rs1 rs2) m = tt
-codes_of (Slt rd rs1 rs2) m = tt
-codes_of (Sltu rd rs1 rs2) m = tt
-codes_of (Xor rd rs1 rs2) m = tt
-codes_of (Srl rd rs1 rs2) m = tt
-codes_of (Sra rd rs1 rs2) m = tt
-codes_of (Or rd rs1 rs2) m = tt
-codes_of (And rd rs1 rs2) m = tt
-codes_of (Fence fm before after rd rs1) m = tt
-codes_of Ebreak m = tt
+codes_of _ m = tt
 
 pub exit_codes_are_words : ExitCodesAreWords
 exit_codes_are_words m e h = go (word_at m.memory m.pc) h where

@@ -1,10 +1,6 @@
 -- The word of an instruction is the one that its fields sum to.
-use Rattle.std.proofs.Common.{◌≡◌, ℕ, arith}
-use Rattle.rv32i.specs.Encoding.{Encodes}
-use Rattle.rv32i.specs.Formats.{RType, IType, SType, BType, UType, JType, FenceType}
+use Rattle.rv32i.proofs.Common.{Add, Addi, And, Andi, arith, Auipc, Beq, Bge, Bgeu, Blt, Bltu, Bne, BType, Ebreak, Ecall, Encodes, Fence, FenceType, Instr, IType, Jal, Jalr, JType, Lb, Lbu, Lh, Lhu, Lui, Lw, Or, Ori, RType, Sb, Sh, Sll, Slli, Slt, Slti, Sltiu, Sltu, Sra, Srai, Srl, Srli, SType, Sub, Sw, UType, Xor, Xori, ℕ, ◌≡◌}
 use Rattle.rv32i.specs.Words.{b_word, fence_word, i_word, j_word, r_word, s_word, u_word, word_of}
-use Rattle.rv32i.specs.declared.instr.Instr.{Instr}
-use Rattle.rv32i.specs.declared.instr.Instr.TheVariants.{Lui, Auipc, Jal, Jalr, Beq, Bne, Blt, Bge, Bltu, Bgeu, Lb, Lh, Lw, Lbu, Lhu, Sb, Sh, Sw, Addi, Slti, Sltiu, Xori, Ori, Andi, Slli, Srli, Srai, Add, Sub, Sll, Slt, Sltu, Xor, Srl, Sra, Or, And, Fence, Ecall, Ebreak}
 
 r_computed : (opcode funct3 funct7 rd rs1 rs2 word : ℕ) → RType opcode funct3 funct7 rd rs1 rs2 word
     → word ≡ r_word opcode funct3 funct7 rd rs1 rs2

@@ -1,9 +1,6 @@
 -- What a word decodes to as a function, for the proofs alone: the instruction that it encodes, if there is one, is the
 -- one that this function finds. So there is at most one, and a word at which it finds none is illegal.
-use Rattle.std.proofs.Common.{◌≡◌, ℕ, ◌+◌, ◌-◌, ◌*◌, ◌/◌, ◌%◌, ◌^◌, ◌<◌, Bool, true, false, cond, eqb, Option, Some, None, refl, ap, subst, lit<, eqb-true}
-use Rattle.rv32i.specs.Encoding.{Encodes, IsIllegal}
-use Rattle.rv32i.specs.declared.instr.Instr.{Instr}
-use Rattle.rv32i.specs.declared.instr.Instr.TheVariants.{Lui, Auipc, Jal, Jalr, Beq, Bne, Blt, Bge, Bltu, Bgeu, Lb, Lh, Lw, Lbu, Lhu, Sb, Sh, Sw, Addi, Slti, Sltiu, Xori, Ori, Andi, Slli, Srli, Srai, Add, Sub, Sll, Slt, Sltu, Xor, Srl, Sra, Or, And, Fence, Ecall, Ebreak}
+use Rattle.rv32i.proofs.Common.{Add, Addi, And, Andi, ap, Auipc, Beq, Bge, Bgeu, Blt, Bltu, Bne, Bool, cond, Ebreak, Ecall, Encodes, eqb, eqb-true, false, Fence, Instr, IsIllegal, Jal, Jalr, Lb, Lbu, Lh, Lhu, lit<, Lui, Lw, None, Option, Or, Ori, refl, Sb, Sh, Sll, Slli, Slt, Slti, Sltiu, Sltu, Some, Sra, Srai, Srl, Srli, Sub, subst, Sw, true, Xor, Xori, ℕ, ◌%◌, ◌*◌, ◌+◌, ◌-◌, ◌/◌, ◌<◌, ◌^◌, ◌≡◌}
 use Rattle.rv32i.proofs.Words.{r_type, i_type, s_type, b_type, u_type, j_type, fence_type, r_parts, i_parts, s_parts, b_parts, u_parts, j_parts, fence_parts}
 
 -- The cases of each opcode, by funct3 and then by funct7.

@@ -1,15 +1,6 @@
 -- A trap and an exit leave the machine as it was, and pc stays a multiple of 4.
-use Rattle.std.proofs.Common.{◌≡◌, ℕ, ◌+◌, ◌%◌, ◌^◌, Bool, true, false, cond, not, eqb, List, Option, Some, None, refl, sym, ap, ◌∙◌, arith, subst}
-use Rattle.std.specs.Prelude.{Ok, is_ok}
-use Rattle.std.proofs.lemmas.Bool.Decides.{nat_tests}
-use Rattle.image.specs.Memory.{fault_at, has_bytes}
-use Rattle.image.specs.declared.fault.MemFault.{MemFault}
-use Rattle.image.specs.declared.fault.MemFault.TheVariants.{Misaligned, Outside, NoMemory}
-use Rattle.rv32i.specs.Machine.{Machine, Effect, Keeps, effect_of, retired, trapped, gives, jumps, linked, branches, loads_unless, stores_unless, calls, signed, sum, value}
-use Rattle.rv32i.specs.declared.instr.Instr.{Instr}
-use Rattle.rv32i.specs.declared.instr.Instr.TheVariants.{Lui, Auipc, Jal, Jalr, Beq, Bne, Blt, Bge, Bltu, Bgeu, Lb, Lh, Lw, Lbu, Lhu, Sb, Sh, Sw, Addi, Slti, Sltiu, Xori, Ori, Andi, Slli, Srli, Srai, Add, Sub, Sll, Slt, Sltu, Xor, Srl, Sra, Or, And, Fence, Ecall, Ebreak}
-use Rattle.rv32i.specs.declared.stepped.Stepped.TheVariants.{Exit, Printed}
-use Rattle.rv32i.specs.declared.stepped.Cause.TheVariants.{JumpMisaligned, UnknownCall}
+use Rattle.rv32i.proofs.Common.{Add, Addi, And, Andi, ap, arith, Auipc, Beq, Bge, Bgeu, Blt, Bltu, Bne, Bool, branches, calls, cond, Ebreak, Ecall, Effect, effect_of, eqb, Exit, false, fault_at, Fence, gives, has_bytes, Instr, is_ok, Jal, Jalr, JumpMisaligned, jumps, Keeps, Lb, Lbu, Lh, Lhu, linked, List, loads_unless, Lui, Lw, Machine, MemFault, Misaligned, nat_tests, NoMemory, None, not, Option, Or, Ori, Outside, Printed, refl, retired, Sb, Sh, signed, Sll, Slli, Slt, Slti, Sltiu, Sltu, Some, Sra, Srai, Srl, Srli, stores_unless, Sub, subst, sum, Sw, sym, trapped, true, UnknownCall, value, Xor, Xori, ℕ, ◌%◌, ◌+◌, ◌^◌, ◌∙◌, ◌≡◌}
+use Rattle.std.specs.Prelude.{Ok}
 
 next_aligned : (pc : ℕ) → pc % 4 ≡ 0 → ((pc + 4) % 2 ^ 32) % 4 ≡ 0
 next_aligned pc h = omega arith
@@ -161,29 +152,7 @@ answers (Sb rs1 rs2 imm) m = stores_answer 1 _ (sum (value rs1 m) imm) m
 answers (Sh rs1 rs2 imm) m = stores_answer 2 _ (sum (value rs1 m) imm) m
 answers (Sw rs1 rs2 imm) m = stores_answer 4 _ (sum (value rs1 m) imm) m
 answers Ecall m = calls_answer m
-answers (Lui rd imm) m = refl
-answers (Auipc rd imm) m = refl
-answers (Addi rd rs1 imm) m = refl
-answers (Slti rd rs1 imm) m = refl
-answers (Sltiu rd rs1 imm) m = refl
-answers (Xori rd rs1 imm) m = refl
-answers (Ori rd rs1 imm) m = refl
-answers (Andi rd rs1 imm) m = refl
-answers (Slli rd rs1 shamt) m = refl
-answers (Srli rd rs1 shamt) m = refl
-answers (Srai rd rs1 shamt) m = refl
-answers (Add rd rs1 rs2) m = refl
-answers (Sub rd rs1 rs2) m = refl
-answers (Sll rd rs1 rs2) m = refl
-answers (Slt rd rs1 rs2) m = refl
-answers (Sltu rd rs1 rs2) m = refl
-answers (Xor rd rs1 rs2) m = refl
-answers (Srl rd rs1 rs2) m = refl
-answers (Sra rd rs1 rs2) m = refl
-answers (Or rd rs1 rs2) m = refl
-answers (And rd rs1 rs2) m = refl
-answers (Fence fm before after rd rs1) m = refl
-answers Ebreak m = refl
+answers _ m = refl
 
 pub step_answers : (before : Machine) (effect : Effect) (i : Instr) → effect ≡ effect_of i before → is_ok effect.answer ≡ true
 step_answers before effect i h = ap (λ e. is_ok e.answer) h ∙ answers i before

@@ -1,12 +1,7 @@
 -- What an instruction does is the move, since the word has no other instruction.
-use Rattle.std.proofs.Common.{◌≡◌, ℕ, ◌%◌, Some, Ok, Err, Result, sym, ap, ◌∙◌}
-use Rattle.std.specs.Prelude.{OnErr, OnOk}
+use Rattle.rv32i.proofs.Common.{ap, Effect, effect_of, Encodes, Err, Instr, IsDecodedAtPc, IsMove, Keeps, Machine, MoveNeedsPage, Ok, OnErr, OnOk, Result, Some, sym, word_at, ℕ, ◌%◌, ◌∙◌, ◌≡◌}
 use Rattle.std.specs.declared.alloc.AllocError.{AllocError}
-use Rattle.image.specs.Memory.{word_at}
-use Rattle.rv32i.specs.Encoding.{Encodes}
-use Rattle.rv32i.specs.Machine.{Machine, Effect, IsDecodedAtPc, IsMove, Keeps, MoveNeedsPage, effect_of}
 use Rattle.rv32i.specs.Steps.{CarriesOut}
-use Rattle.rv32i.specs.declared.instr.Instr.{Instr}
 use Rattle.rv32i.specs.declared.stepped.Stepped.{Stepped}
 use Rattle.rv32i.proofs.Keeps.{step_keeps}
 use Rattle.rv32i.proofs.Unique.{one_instruction}

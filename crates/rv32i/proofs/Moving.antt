@@ -1,18 +1,5 @@
 -- Each word has a decoding, and each machine a move.
-use Rattle.std.proofs.Common.{◌≡◌, ℕ, ◌*◌, ◌/◌, ◌%◌, ◌^◌, ◌<◌, Bool, true, false, cond, eqb, ltb, List, Option, Some, None, Result, Ok, Err, refl, ap, ◌∙◌, arith, lit<, ltb-true, lt-ltb}
-use Rattle.std.specs.Prelude.{MatchResult, is_ok, slice_index, slice_set}
-use Rattle.std.proofs.lemmas.List.{get_or-set_other}
-use Rattle.std.proofs.lemmas.Bool.Decides.{nat_tests}
-use Rattle.image.specs.Memory.{word_at}
-use Rattle.image.specs.declared.fault.MemFault.{MemFault}
-use Rattle.image.specs.declared.fault.MemFault.TheVariants.{Misaligned, Outside, NoMemory}
-use Rattle.rv32i.specs.Encoding.{Encodes, IsDecoding, IsIllegal}
-use Rattle.rv32i.specs.Formats.{RType, IType, SType, BType, UType, JType, FenceType}
-use Rattle.rv32i.specs.Machine.{Machine, Effect, effect_of, fetch_fault, trapped, retired, gives, jumps, linked, branches, loads_unless, stores_unless, calls, with_register, sum, value}
-use Rattle.rv32i.specs.Laws.{HasDecoding, HasMove, MovesAnswer}
-use Rattle.rv32i.specs.declared.instr.Instr.{Instr}
-use Rattle.rv32i.specs.declared.instr.Instr.TheVariants.{Lui, Auipc, Jal, Jalr, Beq, Bne, Blt, Bge, Bltu, Bgeu, Lb, Lh, Lw, Lbu, Lhu, Sb, Sh, Sw, Addi, Slti, Sltiu, Xori, Ori, Andi, Slli, Srli, Srai, Add, Sub, Sll, Slt, Sltu, Xor, Srl, Sra, Or, And, Fence, Ecall, Ebreak}
-use Rattle.rv32i.specs.declared.stepped.Cause.TheVariants.{Illegal, JumpMisaligned}
+use Rattle.rv32i.proofs.Common.{Add, Addi, And, Andi, ap, arith, Auipc, Beq, Bge, Bgeu, Blt, Bltu, Bne, Bool, branches, BType, calls, cond, Ebreak, Ecall, Effect, effect_of, Encodes, eqb, Err, false, Fence, FenceType, fetch_fault, get_or-set_other, gives, HasDecoding, HasMove, Illegal, Instr, is_ok, IsDecoding, IsIllegal, IType, Jal, Jalr, JType, JumpMisaligned, jumps, Lb, Lbu, Lh, Lhu, linked, List, lit<, loads_unless, lt-ltb, ltb, ltb-true, Lui, Lw, Machine, MatchResult, MemFault, Misaligned, MovesAnswer, nat_tests, NoMemory, None, Ok, Option, Or, Ori, Outside, refl, Result, retired, RType, Sb, Sh, slice_index, slice_set, Sll, Slli, Slt, Slti, Sltiu, Sltu, Some, Sra, Srai, Srl, Srli, stores_unless, SType, Sub, sum, Sw, trapped, true, UType, value, with_register, word_at, Xor, Xori, ℕ, ◌%◌, ◌*◌, ◌/◌, ◌<◌, ◌^◌, ◌∙◌, ◌≡◌}
 use Rattle.rv32i.proofs.Decoded.{decoded, illegal, sound}
 use Rattle.rv32i.proofs.Keeps.{step_answers}
 use Rattle.rv32i.proofs.Unique.{one_instruction}
@@ -161,9 +148,6 @@ zero_of (Lh rd rs1 imm) m h = loads_zero _ rd _ m h
 zero_of (Lw rd rs1 imm) m h = loads_zero _ rd _ m h
 zero_of (Lbu rd rs1 imm) m h = loads_zero _ rd _ m h
 zero_of (Lhu rd rs1 imm) m h = loads_zero _ rd _ m h
-zero_of (Sb rs1 rs2 imm) m h = stores_zero _ _ _ m h
-zero_of (Sh rs1 rs2 imm) m h = stores_zero _ _ _ m h
-zero_of (Sw rs1 rs2 imm) m h = stores_zero _ _ _ m h
 zero_of (Addi rd rs1 imm) m h = gives_zero rd _ m h
 zero_of (Slti rd rs1 imm) m h = gives_zero rd _ m h
 zero_of (Sltiu rd rs1 imm) m h = gives_zero rd _ m h
@@ -186,6 +170,7 @@ zero_of (And rd rs1 rs2) m h = gives_zero rd _ m h
 zero_of (Fence fm before after rd rs1) m h = h
 zero_of Ecall m h = calls_zero m h
 zero_of Ebreak m h = h
+zero_of _ m h = stores_zero _ _ _ m h
 
 -- ---- the decoding
 

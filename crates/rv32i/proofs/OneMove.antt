@@ -1,18 +1,10 @@
 -- A machine has one move. Whether two effects are equal can be tested, so it is enough that they cannot differ. If they
 -- did, the word at pc would encode no instruction, since each one would make them equal; and then both are its trap.
-use Rattle.std.proofs.Common.{◌≡◌, ℕ, ℤ, pos, Bool, true, false, cond, eqb, List, Result, Ok, Err, MatchResult, Decides, bytes_eq, int_eq, refl, sym, ap, ◌∙◌}
-use Rattle.std.specs.Prelude.{alloc_error}
+use Rattle.rv32i.proofs.Common.{alloc_error, ap, Bool, Break as Breakpoint, cond, Decides, Decides-eqb, Decides-int_eq, Effect, effect_of, Encodes, eqb, Err, Exit, false, fetch_fault, FetchOutside, Illegal, Instr, int_eq, IsIllegal, IsMove, JumpMisaligned, List, LoadMisaligned, LoadOutside, Machine, MemFault, not_from_Decides, Ok, pos, Printed, refl, Result, Retired, StoreMisaligned, StoreOutside, sym, Trap, trapped, true, UnknownCall, word_at, ℕ, ℤ, ◌∙◌, ◌≡◌}
+use Rattle.std.proofs.Common.{MatchResult, bytes_eq}
 use Rattle.std.specs.declared.alloc.AllocError.{AllocError}
-use Rattle.std.proofs.lemmas.Bool.Decides.{Decides-eqb, Decides-int_eq, not_from_Decides}
 use Rattle.std.proofs.lemmas.Slice.Eq.{bytes_eq-Decides}
-use Rattle.image.specs.Memory.{word_at}
-use Rattle.image.specs.declared.fault.MemFault.{MemFault}
-use Rattle.rv32i.specs.Encoding.{Encodes, IsIllegal}
-use Rattle.rv32i.specs.Machine.{Machine, Effect, IsMove, effect_of, trapped, fetch_fault}
-use Rattle.rv32i.specs.declared.instr.Instr.{Instr}
 use Rattle.rv32i.specs.declared.stepped.Stepped.{Stepped}
-use Rattle.rv32i.specs.declared.stepped.Stepped.TheVariants.{Retired, Printed, Break as Breakpoint, Exit, Trap}
-use Rattle.rv32i.specs.declared.stepped.Cause.TheVariants.{FetchOutside, Illegal, JumpMisaligned, LoadMisaligned, LoadOutside, StoreMisaligned, StoreOutside, UnknownCall}
 
 -- what a test decides, and what cannot fail to hold, holds
 holds : {P : Type 0} (test : Bool) → Decides test P → ((P → ⊥) → ⊥) → P

@@ -1,6 +1,5 @@
 -- The word of an instruction: a sum of its fields that is of its format, and the only one that is.
-use Rattle.std.proofs.Common.{◌≡◌, ℕ, ◌+◌, ◌*◌, ◌/◌, ◌%◌, ◌^◌, ◌<◌, arith}
-use Rattle.rv32i.specs.Formats.{RType, IType, SType, BType, UType, JType, FenceType}
+use Rattle.rv32i.proofs.Common.{arith, BType, FenceType, IType, JType, RType, SType, UType, ℕ, ◌%◌, ◌*◌, ◌+◌, ◌/◌, ◌<◌, ◌^◌, ◌≡◌}
 
 pub r_sum : (opcode funct3 funct7 rd rs1 rs2 word : ℕ) → rd < 2 ^ 5 → rs1 < 2 ^ 5 → rs2 < 2 ^ 5
     → word ≡ funct7 * 2 ^ 25 + rs2 * 2 ^ 20 + rs1 * 2 ^ 15 + funct3 * 2 ^ 12 + rd * 2 ^ 7 + opcode

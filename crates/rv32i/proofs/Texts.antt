@@ -1,8 +1,7 @@
 -- Texts that are compared, and the names of the registers.
-use Rattle.std.proofs.Common.{◌≡◌, ℕ, true, false, List, [], ◌∷◌, refl, ap, ◌∙◌, eqb}
+use Rattle.rv32i.proofs.Common.{[], ap, eqb, false, List, refl, true, with_three, with_two, ℕ, ◌∙◌, ◌∷◌, ◌≡◌}
 use Rattle.std.specs.Cmp.Lexicographic.{pointwise}
 use Rattle.std.proofs.lemmas.Bool.{eq-eqb}
-use Rattle.rv32i.specs.Texts.{with_two, with_three}
 
 same_text : (xs : List ℕ) → pointwise eqb xs xs ≡ true
 same_text [] = refl

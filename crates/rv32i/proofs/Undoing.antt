@@ -1,17 +1,6 @@
 -- What is kept of a move undoes it.
-use Rattle.std.proofs.Common.{◌≡◌, ℕ, suc, ◌+◌, ◌-◌, ◌%◌, ◌≤◌, Bool, true, false, cond, not, eqb, leb, ◌&&◌, ◌||◌, List, [], ◌∷◌, ◌++◌, length, take, drop, Option, Some, None, Result, Ok, MatchResult, IsTrue, refl, sym, ap, ◌∙◌, subst, arith, append_assoc, length-append}
-use Rattle.std.specs.Prelude.{slice_index, slice_set}
-use Rattle.std.proofs.lemmas.Bool.Decides.{nat_tests}
-use Rattle.std.proofs.lemmas.List.{set-set, set-get_or, length-take-le, length-drop, take_at, drop_at, drop-drop, take-append-drop}
-use Rattle.image.specs.Memory.{bytes_at, fault_at, first_address, halfword_bytes, has_bytes, memory_after, with_bytes, word_at, word_bytes}
-use Rattle.image.specs.declared.fault.MemFault.{MemFault}
-use Rattle.image.specs.declared.fault.MemFault.TheVariants.{Misaligned, Outside, NoMemory}
-use Rattle.rv32i.specs.Encoding.{Encodes, IsIllegal}
-use Rattle.rv32i.specs.Machine.{Machine, Effect, IsDecodedAtPc, effect_of, fetch_fault, retired, trapped, gives, jumps, linked, branches, loads_unless, stores_unless, calls, signed, sum, value, with_register}
-use Rattle.rv32i.specs.declared.instr.Instr.{Instr}
-use Rattle.rv32i.specs.declared.instr.Instr.TheVariants.{Lui, Auipc, Jal, Jalr, Beq, Bne, Blt, Bge, Bltu, Bgeu, Lb, Lh, Lw, Lbu, Lhu, Sb, Sh, Sw, Addi, Slti, Sltiu, Xori, Ori, Andi, Slli, Srli, Srai, Add, Sub, Sll, Slt, Sltu, Xor, Srl, Sra, Or, And, Fence, Ecall, Ebreak}
-use Rattle.rv32i.specs.declared.stepped.Stepped.TheVariants.{Exit, Printed}
-use Rattle.rv32i.specs.declared.stepped.Cause.TheVariants.{Illegal, JumpMisaligned, UnknownCall}
+use Rattle.rv32i.proofs.Common.{[], Add, Addi, And, Andi, ap, append_assoc, arith, Auipc, Beq, Bge, Bgeu, Blt, Bltu, Bne, Bool, branches, bytes_at, calls, cond, drop, drop-drop, drop_at, Ebreak, Ecall, Effect, effect_of, Encodes, eqb, Exit, false, fault_at, Fence, fetch_fault, first_address, gives, halfword_bytes, has_bytes, Illegal, Instr, IsDecodedAtPc, IsIllegal, IsTrue, Jal, Jalr, JumpMisaligned, jumps, Lb, Lbu, leb, length, length-append, length-drop, length-take-le, Lh, Lhu, linked, List, loads_unless, Lui, Lw, Machine, MemFault, memory_after, Misaligned, nat_tests, NoMemory, None, not, Ok, Option, Or, Ori, Outside, Printed, refl, Result, retired, Sb, set-get_or, set-set, Sh, signed, slice_index, slice_set, Sll, Slli, Slt, Slti, Sltiu, Sltu, Some, Sra, Srai, Srl, Srli, stores_unless, Sub, subst, suc, sum, Sw, sym, take, take-append-drop, take_at, trapped, true, UnknownCall, value, with_bytes, with_register, word_at, word_bytes, Xor, Xori, ℕ, ◌%◌, ◌&&◌, ◌++◌, ◌+◌, ◌-◌, ◌||◌, ◌∙◌, ◌∷◌, ◌≡◌, ◌≤◌}
+use Rattle.std.proofs.Common.{MatchResult}
 use Rattle.rv32i.specs.Undoing.{IsKept, Undoes, destination, retires, stored, undone}
 use Rattle.rv32i.specs.declared.undo.Undo.{Undo}
 

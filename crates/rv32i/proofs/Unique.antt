@@ -1,8 +1,5 @@
 -- An instruction has one word.
-use Rattle.std.proofs.Common.{◌≡◌, ℕ, ◌∙◌, sym}
-use Rattle.rv32i.specs.Encoding.{Encodes}
-use Rattle.rv32i.specs.declared.instr.Instr.{Instr}
-use Rattle.rv32i.specs.declared.instr.Instr.TheVariants.{Lui, Auipc, Jal, Jalr, Beq, Bne, Blt, Bge, Bltu, Bgeu, Lb, Lh, Lw, Lbu, Lhu, Sb, Sh, Sw, Addi, Slti, Sltiu, Xori, Ori, Andi, Slli, Srli, Srai, Add, Sub, Sll, Slt, Sltu, Xor, Srl, Sra, Or, And, Fence, Ecall, Ebreak}
+use Rattle.rv32i.proofs.Common.{Add, Addi, And, Andi, Auipc, Beq, Bge, Bgeu, Blt, Bltu, Bne, Ebreak, Ecall, Encodes, Fence, Instr, Jal, Jalr, Lb, Lbu, Lh, Lhu, Lui, Lw, Or, Ori, Sb, Sh, Sll, Slli, Slt, Slti, Sltiu, Sltu, Sra, Srai, Srl, Srli, Sub, Sw, sym, Xor, Xori, ℕ, ◌∙◌, ◌≡◌}
 use Rattle.rv32i.proofs.Decoded.{finds}
 use Rattle.rv32i.proofs.Sums.{r_unique, i_unique, s_unique, b_unique, u_unique, j_unique, fence_unique}
 

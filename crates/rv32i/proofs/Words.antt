@@ -1,6 +1,5 @@
 -- A word's fields by division, and the sums of the formats: each gives the other.
-use Rattle.std.proofs.Common.{◌≡◌, ℕ, ◌+◌, ◌-◌, ◌*◌, ◌/◌, ◌%◌, ◌^◌, ◌<◌, arith}
-use Rattle.rv32i.specs.Formats.{RType, IType, SType, BType, UType, JType, FenceType}
+use Rattle.rv32i.proofs.Common.{arith, BType, FenceType, IType, JType, RType, SType, UType, ℕ, ◌%◌, ◌*◌, ◌+◌, ◌-◌, ◌/◌, ◌<◌, ◌^◌, ◌≡◌}
 
 pub r_type : (opcode funct3 funct7 rd rs1 rs2 word : ℕ) → word % 2 ^ 7 ≡ opcode → word / 2 ^ 12 % 2 ^ 3 ≡ funct3 → word / 2 ^ 25 ≡ funct7
     → rd ≡ word / 2 ^ 7 % 2 ^ 5 → rs1 ≡ word / 2 ^ 15 % 2 ^ 5 → rs2 ≡ word / 2 ^ 20 % 2 ^ 5 → RType opcode funct3 funct7 rd rs1 rs2 word

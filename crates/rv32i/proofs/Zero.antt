@@ -1,9 +1,5 @@
 -- x0 stays 0 where a register is set back.
-use Rattle.std.proofs.Common.{◌≡◌, Bool, true, false, cond, eqb, refl, ◌∙◌, arith}
-use Rattle.std.specs.Prelude.{slice_index, slice_set}
-use Rattle.std.proofs.lemmas.List.{get_or-set_other}
-use Rattle.std.proofs.lemmas.Bool.Decides.{nat_tests}
-use Rattle.rv32i.specs.Machine.{Machine}
+use Rattle.rv32i.proofs.Common.{arith, Bool, cond, eqb, false, get_or-set_other, Machine, nat_tests, refl, slice_index, slice_set, true, ◌∙◌, ◌≡◌}
 use Rattle.rv32i.specs.Undoing.{undone}
 use Rattle.rv32i.specs.declared.undo.Undo.{Undo}
 

@@ -3,7 +3,7 @@ use Rattle.std.specs.Prelude.{ℕ, List, codes}
 use Rattle.rv32i.specs.declared.stepped.Cause.{Cause}
 use Rattle.rv32i.specs.declared.stepped.Cause.TheVariants as cause
 
--- the name of an exception, in the words of that table; a call that there is none for has its own
+-- the name of an exception, in the words of that table; an unknown environment call, which is not there, has its own
 abbrev pub cause_text : Cause → List ℕ
 cause_text cause.FetchOutside = codes "instruction access fault"
 cause_text cause.Illegal = codes "illegal instruction"

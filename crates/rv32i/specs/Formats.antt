@@ -5,7 +5,7 @@
 -- each definition here is a row of the manual's figures: the bits from 31 down to 0, as a sum.
 --
 -- An immediate is given by several fields. "The sign bit for all immediates is always in bit 31 of the instruction":
--- it stands for each bit of the immediate from its own place k up to bit 31, so its weight is 2 ^ 32 - 2 ^ k. An
+-- it gives each bit of the immediate from its own place k up to bit 31, so its weight is 2 ^ 32 - 2 ^ k. An
 -- immediate is thus written as 32 bits, sign-extended. The offsets of branches and jumps have no field for bit 0,
 -- which is 0.
 use Rattle.std.specs.Prelude.{◌≡◌, ℕ, ◌+◌, ◌-◌, ◌*◌, ◌^◌, ◌<◌}

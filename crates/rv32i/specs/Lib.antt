@@ -2,7 +2,7 @@
 
 -- the formats: where the fields of an instruction lie in its word
 pub mod Formats
--- the table of encodings: which word stands for which instruction, and which words are illegal
+-- the table of encodings: which word encodes which instruction, and which words are illegal
 pub mod Encoding
 -- the word of an instruction, as a function of it
 pub mod Words
@@ -21,5 +21,5 @@ pub mod Laws
 -- ---- what no reader of a step needs
 -- how the code makes a move: its core and what settles the rest
 pub mod Steps
--- how the code finds the register that a name means
-pub mod Candidates
+-- what private clauses alone cite
+pub mod Private

@@ -68,7 +68,7 @@ is_less_than a b = int_lt (signed a) (signed b)
 abbrev pub is_less_than_unsigned : ℕ → ℕ → Bool
 is_less_than_unsigned a b = nat_lt a b
 
--- 1 where it is so, 0 where it is not
+-- 1 for true, 0 for false
 abbrev pub flag : Bool → ℕ
 flag test = if test then 1 else 0
 
@@ -132,7 +132,7 @@ linked rd m = record m { x = with_register rd (sum m.pc 4) m.x }
 abbrev pub branches : Bool → ℕ → Machine → Effect
 branches taken offset m = if taken then jumps (sum m.pc offset) m m else retired (sum m.pc 4) m
 
--- What comes of a fault of a load. An address has two: it is no multiple of what it has to be, or else there is a byte
+-- What a fault of a load does. An address has two: it is no multiple of what it has to be, or else there is a byte
 -- that it does not have (`fault_at`).
 abbrev pub load_fault : MemFault → Machine → Effect
 load_fault Misaligned m = trapped LoadMisaligned m
@@ -143,7 +143,7 @@ abbrev pub loads_unless : Option MemFault → ℕ → ℕ → Machine → Effect
 loads_unless None rd v m = gives rd v m
 loads_unless (Some fault) rd v m = load_fault fault m
 
--- A load of so many bytes, at an address that is a multiple of their number: rd gets what is made of their value.
+-- A load of `count` bytes, at an address that is a multiple of their number: rd gets what is made of their value.
 abbrev pub loads : ℕ → (ℕ → ℕ) → ℕ → ℕ → Machine → Effect
 loads count extended rd address m = loads_unless (fault_at m.memory count address count) rd
     (extended (little_endian (bytes_at m.memory address count))) m
@@ -152,7 +152,7 @@ loads count extended rd address m = loads_unless (fault_at m.memory count addres
 abbrev pub as_it_is : ℕ → ℕ
 as_it_is a = a
 
--- what comes of a fault of a store, which has the same two
+-- what a fault of a store does; it has the same two
 abbrev pub store_fault : MemFault → Machine → Effect
 store_fault Misaligned m = trapped StoreMisaligned m
 store_fault other m = trapped StoreOutside m
@@ -163,7 +163,7 @@ stores_unless None bytes address m =
     record { answer = Ok Retired; machine = record m { pc = sum m.pc 4; memory = with_bytes m.memory address bytes } }
 stores_unless (Some fault) bytes address m = store_fault fault m
 
--- a store of so many bytes, at an address that is a multiple of their number
+-- a store of `count` bytes, at an address that is a multiple of their number
 abbrev pub stores : ℕ → List ℕ → ℕ → Machine → Effect
 stores count bytes address m = stores_unless (fault_at m.memory count address count) bytes address m
 
@@ -268,8 +268,7 @@ pub record StoreNeedsPage (instr : Instr) (m : Machine) : Type 0 where
   pub stores : store_of instr m ≡ Some store
   pub needs : NeedsPage (length store.bytes) m.memory store.address (length store.bytes)
 
--- Memory is made for a move only where it stores into a page of which each byte is 0: the instruction at pc is such a
--- store.
+-- Memory is made for a move only where it stores into a page of zeros: the instruction at pc is such a store.
 pub record MoveNeedsPage (m : Machine) : Type 0 where
   pub instr : Instr
   pub decoded : IsDecodedAtPc m (Some instr)
@@ -277,7 +276,7 @@ pub record MoveNeedsPage (m : Machine) : Type 0 where
 
 -- ---- what holds of each move
 
--- a trap and an exit leave the machine as it was, and so it is where no memory is left
+-- a trap and an exit leave the machine as it was, and so does a lack of memory
 abbrev pub KeepsMachine : Result Stepped AllocError → Machine → Machine → Type 0
 KeepsMachine (Err error) before after = after ≡ before
 KeepsMachine (Ok (Trap cause)) before after = after ≡ before

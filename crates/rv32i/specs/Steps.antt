@@ -16,17 +16,17 @@ use Rattle.rv32i.specs.declared.stepped.Stepped.TheVariants.{Retired, Break, Tra
 use Rattle.rv32i.specs.declared.instr.Instr.{Instr}
 use Rattle.rv32i.specs.declared.instr.Instr.TheVariants.{Ecall, Ebreak}
 
--- what comes of a fault of a load
+-- how an instruction halts by a fault of a load
 abbrev pub load_halt : MemFault → Halt
 load_halt Misaligned = Stopped LoadMisaligned
 load_halt other = Stopped LoadOutside
 
--- what a load gives: the value, or what comes of the fault
+-- what a load gives: the value, or how it halts by the fault
 abbrev pub loaded_unless : Option MemFault → ℕ → Result ℕ Halt
 loaded_unless None value = Ok value
 loaded_unless (Some fault) value = Err (load_halt fault)
 
--- what a load of so many bytes gives
+-- what a load of `count` bytes gives
 abbrev pub loaded : ℕ → List ℕ → ℕ → Result ℕ Halt
 loaded count memory address =
     loaded_unless (fault_at memory count address count) (little_endian (bytes_at memory address count))
@@ -50,18 +50,18 @@ abbrev pub links : ℕ → ℕ → ℕ → List ℕ → Result ℕ Halt → List
 links target rd next before answer after = (answer ≡ target_of target)
     × (after ≡ (if target % 4 == 0 then with_register rd next before else before))
 
--- what comes of a fault of a store
+-- how an instruction halts by a fault of a store
 abbrev pub store_halt : MemFault → Halt
 store_halt Misaligned = Stopped StoreMisaligned
 store_halt Outside = Stopped StoreOutside
 store_halt NoRoom = NoMemory
 
--- what a store answers: the next pc, or what comes of the fault
+-- what a store answers: the next pc, or how it halts by the fault
 abbrev pub stored_unless : Option MemFault → ℕ → Result ℕ Halt
 stored_unless None next = Ok next
 stored_unless (Some fault) next = Err (store_halt fault)
 
--- a store of so many bytes: what it answers, and the memory after it; or it finds no room for the page
+-- a store of `count` bytes: what it answers, and the memory after it; or it finds no room for the page
 abbrev pub Stores : ℕ → List ℕ → ℕ → ℕ → List ℕ → Result ℕ Halt → List ℕ → Type 0
 Stores count bytes address next before (Err NoMemory) after =
     NeedsPage count before address count × (after ≡ before)

@@ -1,10 +1,10 @@
--- The disassembly of a word: a statement of the assembly language that stands for it (RISC-V Unprivileged ISA 20191213,
+-- The disassembly of a word: a statement of the assembly language that means it (RISC-V Unprivileged ISA 20191213,
 -- chapter 25, and the listings of chapter 2).
 --
 -- That of an instruction is its mnemonic, a space, and the operands divided by a comma and a space. Registers have
 -- their names, an immediate is a signed decimal, the 20 bits of an upper immediate are hexadecimal without leading
--- zeros, and the target of a jump or a branch is the absolute address, in eight hexadecimal digits. A FENCE that no
--- such statement stands for is written as its word.
+-- zeros, and the target of a jump or a branch is the absolute address, in eight hexadecimal digits. A FENCE
+-- without such a statement is written as its word.
 use Rattle.std.specs.Prelude.{◌≡◌, ℕ, ◌+◌, ◌/◌, ◌%◌, ◌^◌, Bool, nat_lt, not, if◌then◌else◌, ◌==◌, ◌&&◌, false, List, []}
 use Rattle.std.specs.Prelude.{◌∷◌, ◌++◌, codes, decimal, refl}
 use Rattle.std.specs.Bool.{MatchBool}
@@ -32,7 +32,7 @@ eight_digits n = hex_digit (n / 2 ^ 28) ∷ hex_digit (n / 2 ^ 24 % 16) ∷ hex_
 abbrev pub address_text : ℕ → List ℕ
 address_text n = codes "0x" ++ eight_digits n
 
--- a word that no other statement stands for
+-- a word that no other statement means
 abbrev pub word_text : ℕ → List ℕ
 word_text n = codes ".word 0x" ++ eight_digits n
 
@@ -87,7 +87,7 @@ set_text set =
     letter (set / 8) (codes "i") ++ (letter (set / 4 % 2) (codes "o")
     ++ (letter (set / 2 % 2) (codes "r") ++ letter (set % 2) (codes "w")))
 
--- whether a statement stands for a FENCE: the other fields are 0, and neither set is empty
+-- whether a FENCE has a statement: the other fields are 0, and neither set is empty
 abbrev pub is_plain_fence : (fm before after rd rs1 : ℕ) → Bool
 is_plain_fence fm before after rd rs1 = (fm == 0)
     && ((rd == 0) && ((rs1 == 0) && (not (before == 0) && not (after == 0))))

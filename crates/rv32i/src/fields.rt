@@ -238,7 +238,7 @@ impl Shamt {
     }
 }
 
-/// A field of 4 bits of FENCE: its mode, or the accesses before or after it, of which device input is 8,
+/// A field of 4 bits of FENCE: its mode, or the accesses before or after it: device input is 8,
 /// device output 4, memory reads 2 and memory writes 1.
 #[derive(Clone, Copy, Debug, PartialEq, Eq)]
 pub struct FenceSet {

@@ -46,8 +46,8 @@ impl Hart {
     }
 
     /// One step: fetches the word at pc, decodes it, and does what the instruction says. After a trap
-    /// or an exit the hart and memory are as they were. `Err`: no memory was left for a page of which each
-    /// byte is 0, into which the instruction stores, and all is as it was.
+    /// or an exit the hart and memory are as they were. `Err`: no memory was left for a page of
+    /// zeros into which the instruction stores, and all is as it was.
     pub fn step(&mut self, memory: &mut Memory) -> Result<Stepped, AllocError>
         ensures moves { OnOk result (IsMove (machine_of self.old memory.old)
             (record { answer = result; machine = machine_of self.new memory.new })) }

@@ -40,7 +40,7 @@ pub fn each_machine_moves()
     ensures { EachMachineMoves }
 {}
 
-/// A move is answered: that no memory was left for a step is none.
+/// A move is answered: it never says that no memory is left.
 pub fn moves_answer()
     ensures { MovesAnswer }
 {}

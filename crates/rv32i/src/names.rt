@@ -2,7 +2,7 @@
 //! Programmer's Handbook").
 
 ghost use Rattle.std.specs.Prelude.{◌≡◌, ◌<◌, IfSome};
-ghost use Rattle.rv32i.specs.Candidates.{candidate, digit, numbered, of_three, of_two};
+ghost use Rattle.rv32i.specs.Private.Candidates.{candidate, digit, numbered, of_three, of_two};
 ghost use Rattle.rv32i.specs.Names.{name_of, number_named, numbered_name_of, NamesOrNot};
 
 /// How many registers there are.

@@ -17,7 +17,7 @@ use image::Memory;
 pub enum Halt {
     /// It traps.
     Stopped(Cause),
-    /// It stores into a page of which each byte is 0, and no memory was left for that.
+    /// It stores into a page of zeros, and no memory was left for that.
     NoMemory,
     /// It is ECALL, and was not carried out.
     Calls,
@@ -96,7 +96,7 @@ fn linked_jump(target: u32, reg: Reg, x: &mut [u32; 32], next: u32) -> Result<u3
 
 /// Does to the registers and to memory what the instruction at an address says, and answers the address
 /// of the next one; x0 is 0 before and after. `Err`: there is none, and nothing has changed: it traps, or
-/// finds no memory for a page of which each byte is 0, into which it stores, or is ECALL or EBREAK, which
+/// finds no memory for a page of zeros into which it stores, or is ECALL or EBREAK, which
 /// `Hart::settle` carries out.
 #[inline(always)]
 pub fn perform(x: &mut [u32; 32], pc: u32, instr: &Instr, memory: &mut Memory) -> Result<u32, Halt>
@@ -166,7 +166,7 @@ fn address(x: &[u32; 32], base: Reg, imm: Imm) -> u32
     read(x, base).wrapping_add(imm.bits())
 }
 
-// 1 where it is so, 0 where it is not.
+// 1 for true, 0 for false.
 #[inline]
 fn flag(test: bool) -> u32
     ensures { result ≡ flag test }

@@ -3,7 +3,7 @@
 ghost use Rattle.std.specs.Prelude.{◌≡◌};
 ghost use Rattle.rv32i.specs.Causes.{cause_text};
 
-/// What came of one step of a hart.
+/// What one step of a hart led to.
 #[derive(Clone, Copy, Debug, PartialEq, Eq)]
 pub enum Stepped {
     /// An instruction retired.

@@ -26,7 +26,7 @@ use crate::fields::{BranchOffset, FenceSet, Imm, Reg, Shamt, Upper};
 use crate::names::reg_name;
 use std::alloc::{AllocError, Global};
 
-/// The disassembly of an instruction at an address: the statement that stands for it. The targets of jumps
+/// The disassembly of an instruction at an address: the statement that means it. The targets of jumps
 /// and branches are written as absolute addresses, `pc` and the offset, wrapping. A FENCE for which there
 /// is no statement is written as its word, `.word 0x` and eight digits. `Err`: no memory was left.
 pub fn text_of(alloc: Global, instr: Instr, pc: u32) -> Result<String, AllocError>

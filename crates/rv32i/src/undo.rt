@@ -152,7 +152,7 @@ fn stored_at(x: &[u32; 32], base: Reg, imm: Imm, count: u8) -> Place
     }
 }
 
-// The bytes at an address, so many of them, where these lie in memory.
+// The `count` bytes at an address, where these lie in memory.
 fn bytes_at(memory: &Memory, address: u32, count: u8) -> [u8; 4]
     requires { count ≤ 4 }
     ensures { fault_at memory.now 1 address count ≡ None

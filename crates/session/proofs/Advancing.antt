@@ -1,16 +1,9 @@
--- Moves of which there is nothing to tell are as many beats.
-use Rattle.std.proofs.Common.{◌≡◌, ℕ, ℤ, zero, suc, ◌+◌, ◌<◌, ◌≤◌, Bool, true, false, leb, ltb, List, [], ◌∷◌, Option, Some, None, Ok, inr, refl, sym, ap, ◌∙◌, subst, arith}
-use Rattle.std.specs.Prelude.{◌&&◌, not}
-use Rattle.session.proofs.Common.{after_beat, Back, beat, Beat, beats_on, by_tick, Go, Goal, In, Instr, is_runnable_by, IsFree, keepings, Kept, makes_move, MayLack, moves_by, nat_tests, next_beat, Out, Over, Position, ReverseGo, Run, SliceEnd, Slicing, Stepped, the_tick, Tick}
+-- Moves that leave nothing to tell are as many beats.
+use Rattle.session.proofs.Common.{[], Advances, after_beat, ap, arith, Back, beat, Beat, beats_on, Bool, by_tick, Debugged, Ended, false, Go, Goal, GoesQuietly, going, gone_back, gone_on, In, inr, Instr, is_runnable_by, IsAhead, IsFree, IsTick, keepings, Kept, leb, List, looked_at, ltb, makes_move, MayLack, Moved, moved, moved_as, Moves as Ticks, moves_by, moves_of, nat_tests, next_beat, next_tick, None, not, Ok, Option, Out, Outcome, Over, owing_by, Position, Program, refl, ReverseGo, Run, settled, SliceEnd, Slicing, Some, stays, Stepped, Stopped, Stretches, subst, suc, sym, the_tick, Tick, tick_of, true, undone, undone_by, unless_memory, Went, zero, ℕ, ℤ, ◌&&◌, ◌+◌, ◌<◌, ◌∙◌, ◌∷◌, ◌≡◌, ◌≤◌}
 use Rattle.rv32i.specs.declared.stepped.Stepped.TheVariants.{Retired, Printed, Break, Exit, Trap}
 use Rattle.stepping.specs.Goals.{turns_back}
-use Rattle.stepping.specs.Ticks.{Debugged, IsTick, Moves as Ticks, gone_back, gone_on, looked_at, moved_as, settled, tick_of, undone, undone_by}
-use Rattle.stepping.specs.declared.tick.Outcome.{Outcome}
-use Rattle.stepping.specs.declared.tick.Outcome.TheVariants.{Went, Stopped, Ended}
-use Rattle.debuggee.specs.Programs.{Program, Advances, GoesQuietly, moved, next_tick, owing_by, stays}
 use Rattle.debuggee.specs.declared.program.Advanced.{Advanced}
 use Rattle.debuggee.specs.declared.program.Advanced.TheVariants.{Spent, Owes, Meets, Lacks}
-use Rattle.session.specs.Beats.{IsAhead, Moved, Stretches, going, moves_of, unless_memory}
 use Rattle.session.specs.declared.event.SliceEnd.TheVariants as ending
 use Rattle.session.specs.declared.slices.Ahead.{Ahead}
 use Rattle.session.specs.declared.slices.Ahead.TheVariants as ahead
@@ -39,19 +32,13 @@ settled_leaves : (before after : Debugged) (s : Stepped) (instr : Option Instr)
     → stays (tick_of s instr before.hart.pc (moved_as before after)).outcome ≡ false
     → after ≡ settled s instr before (moved_as before after)
     → Leaves before after
-settled_leaves before after Retired instr e h = gone_on_leaves before after instr h
-settled_leaves before after (Printed number) instr e h = gone_on_leaves before after instr h
-settled_leaves before after Break instr e h = gone_on_leaves before after instr h
 settled_leaves before after (Exit code) instr e h = absurd (let never : true ≡ false = e in cc)
 settled_leaves before after (Trap cause) instr e h = absurd (let never : true ≡ false = e in cc)
+settled_leaves before after _ instr e h = gone_on_leaves before after instr h
 
 looked_leaves : (goal : Goal) (d : Debugged) → (let l = looked_at goal d in (l.check_due ≡ d.check_due) × (l.goal ≡ d.goal))
 looked_leaves Go d = (refl, refl)
-looked_leaves (In granularity) d = (refl, refl)
-looked_leaves (Over granularity) d = (refl, refl)
-looked_leaves (Out granularity) d = (refl, refl)
-looked_leaves Back d = (refl, refl)
-looked_leaves ReverseGo d = (refl, refl)
+looked_leaves _ d = (refl, refl)
 
 undone_leaves : (past : List Position) (d : Debugged) → (let u = undone_by past d in (u.check_due ≡ d.check_due) × (u.goal ≡ d.goal))
 undone_leaves [] d = (refl, refl)
@@ -124,7 +111,7 @@ record Still (j : ℕ) (p q : Program) : Type 0 where
   goal : q.machine.goal ≡ p.machine.goal
   retired : turns_back p.machine.goal ≡ false → q.machine.retired ≡ p.machine.retired + j
 
--- so many instructions may retire still, unless it goes back
+-- this many more instructions may retire, unless it goes back
 abbrev pub HasLeft : ℕ → Kept → Program → Type 0
 HasLeft most k p = turns_back p.machine.goal ≡ false → p.machine.retired + most ≤ k.now.limits.last_retired
 
@@ -209,7 +196,7 @@ quietly n m most (suc j) k p q f le room few g =
 
 -- ---- what is made of them
 
--- so many moves, of none of which there is anything to tell, before one that is not made
+-- a number of moves that leave nothing to tell, before one that is not made
 quiet_before : (left most count : ℕ) (k new : Kept) (p q : Program) (next : Ahead) → IsFree p (keepings.see k) → most ≤ left
     → HasLeft most k p → count < most → GoesQuietly count p q → new ≡ with_one q k
     → (count < left → IsFree q (keepings.see new) → IsAhead left count next new) → Moved left k (record { moved = count; ahead = next }) new
@@ -262,7 +249,7 @@ advance_moves left most k new p q (Meets count tick) f some le few g e =
 advance_moves left most k new p q (Lacks count) f some le few g e =
     quiet_before left most count k new p q ahead.Lacks f le few g.0 g.1.0 e (λ fewer free. (fewer, (q, (free, g.1.1))))
 
--- ---- then the slice goes on, or the instruction that stays comes
+-- ---- then the slice continues, or the instruction that stays comes
 
 pub beats_after : (n j i : ℕ) (d : Slicing Kept) → beats_on keepings n (j + i) d ≡ beats_on keepings n i (beats_on keepings n j d)
 beats_after n j zero d = let e : j + zero ≡ j = omega arith in ap (λ (x : ℕ). beats_on keepings n x d) e

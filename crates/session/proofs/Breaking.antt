@@ -1,17 +1,11 @@
--- What comes of a request that sets breakpoints, case by case.
-use Rattle.std.proofs.Common.{◌≡◌, ℕ, suc, ◌+◌, ◌≤◌, ◌<◌, Bool, true, false, cond, ltb, lt-ltb, List, [], ◌∷◌, length, map, Option, Some, None, Result, Ok, Err, refl, subst, arith}
-use Rattle.session.proofs.Common.{agreeing, Answering, Command, Done, Given, has_text, initializes, is_word, nat_tests, Program, Refusal, refusing, ResponseBody, Terms, Wanted}
-use Rattle.protocol.specs.declared.command.Command.TheVariants.{SetBreakpoints, SetFunctionBreakpoints, SetInstructionBreakpoints}
+-- The answer to a request that sets breakpoints, case by case.
+use Rattle.session.proofs.Common.{[], agreeing, Answering, arith, Bool, breaks_answer, Command, cond, Done, Err, false, Given, has_text, initializes, is_word, IsTrue, length, List, lt-ltb, ltb, map, MatchResult, nat_tests, None, Ok, Option, Program, ReferencesExhausted, refl, Refusal, refusing, replaces, ResponseBody, Result, SetBreakpoints, SetFunctionBreakpoints, SetInstructionBreakpoints, sets_breakpoints, sets_by, slice_index, Some, subst, suc, success_on, Terms, TooMuch, true, Wanted, ℕ, ◌+◌, ◌<◌, ◌∷◌, ◌≡◌, ◌≤◌}
 use Rattle.std.proofs.lemmas.List.{length-map}
-use Rattle.std.specs.Prelude.{IsTrue, MatchResult, slice_index}
-use Rattle.answers.specs.Answers.{breaks_answer, sets_breakpoints}
 use Rattle.answers.specs.Breakpoints.{Answer}
 use Rattle.answers.specs.Laws.{those_set}
 use Rattle.answers.specs.SetBreakpoints.{is_own, is_too_much, of_source}
 use Rattle.answers.proofs.Entries.{numbers_follow}
-use Rattle.protocol.specs.declared.refusal.Refusal.TheVariants.{ReferencesExhausted, TooMuch}
 use Rattle.replies.specs.declared.response.ResponseBody.TheVariants as body
-use Rattle.handlers.specs.Breaks.{replaces, sets_by, success_on}
 use Rattle.handlers.specs.Views.{view_of}
 use Rattle.session.proofs.Orderly.{AreWords}
 use Rattle.session.proofs.Reaching.{if_keeps}

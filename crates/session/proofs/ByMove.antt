@@ -1,11 +1,8 @@
--- What comes of a move, in three: it is made, or the instruction traps, or it ends the program.
-use Rattle.session.proofs.Common.{false, Now, Program, refl, Some, stays, ℤ, ◌≡◌}
+-- A move in three cases: it is made, or the instruction traps, or it ends the program.
+use Rattle.session.proofs.Common.{Beat, Ended, exits, false, makes_move, moves_by, Now, Outcome, Program, refl, Some, stays, Stopped, stops, Went, ℤ, ◌≡◌}
 use Rattle.debuggee.specs.declared.run.Why.TheVariants as why
 use Rattle.rv32i.specs.declared.stepped.Cause.{Cause}
 use Rattle.session.specs.declared.event.SliceEnd.TheVariants as ending
-use Rattle.session.specs.Slices.{Beat, exits, makes_move, moves_by, stops}
-use Rattle.stepping.specs.declared.tick.Outcome.{Outcome}
-use Rattle.stepping.specs.declared.tick.Outcome.TheVariants.{Went, Stopped, Ended}
 use Rattle.stepping.specs.declared.tick.Reason.TheVariants as met
 
 -- What holds of each holds of the move.

@@ -1,9 +1,8 @@
 -- What comes next in a slice.
-use Rattle.session.proofs.Common.{[], ap, arith, Bool, cond, Decides, entered, false, FULL, keepings, Kept, length, List, ltb, Mark, nat_tests, None, not, Option, Program, Some, Tick, true, why_marked, ℕ, ◌∙◌, ◌∷◌, ◌≡◌, ◌≤◌}
+use Rattle.session.proofs.Common.{[], ap, arith, beat, Beat, beat_by, beat_of, becomes, Bool, cond, Decides, ends, entered, false, FULL, goes, goes_unless, is_at_limit, is_runnable_by, IsFree, keepings, Kept, length, List, ltb, Mark, moves, nat_tests, None, not, Option, Program, Some, stops, Tick, true, why_marked, ℕ, ◌∙◌, ◌∷◌, ◌≡◌, ◌≤◌}
 use Rattle.debuggee.specs.declared.run.Why.TheVariants as why
 use Rattle.session.specs.declared.event.SliceEnd.TheVariants as ending
 use Rattle.session.specs.declared.slices.Next.TheVariants as next
-use Rattle.session.specs.Slices.{Beat, IsFree, beat, beat_by, beat_of, becomes, ends, goes, goes_unless, is_at_limit, is_runnable_by, moves, stops}
 
 -- where nothing is owed, and the program is given time and room
 pub record IsReady (p : Program) (k : Kept) : Type 0 where

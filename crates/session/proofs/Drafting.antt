@@ -1,19 +1,11 @@
 -- Messages that are written first, and numbered at once, are those that are queued one after the other.
-use Rattle.std.proofs.Common.{◌≡◌, ℕ, ◌+◌, ◌<◌, ◌≤◌, Bool, true, false, cond, eqb, ltb, List, [], ◌∷◌, ◌++◌, map, Option, Some, None, refl, sym, ap, ◌∙◌, subst, arith, append-nil, append_assoc, lt-ltb}
-use Rattle.session.proofs.Common.{AllocError, Call, Debuggee, is_active, Limits, Link, Message, nat_tests, Pending, performed, Prepared, said_on, saying, Session, Terms}
-use Rattle.std.specs.Prelude.{IfOk, Result}
+use Rattle.session.proofs.Common.{[], Act, agreed, AllocError, alone, answer_of, answer_to, answering, Answering, answering_as, ap, append-nil, append_assoc, arith, Bool, Call, call_of, changed, closing, cond, Debuggee, draft_of, draft_on, draft_told, drafted, Drafted, drafted_all, eqb, false, first_pending, given_of, IfOk, is_active, IsPrepared, keepings, keeps, Kept, kept_changed, kept_of, Lent, Limits, Link, List, lt-ltb, ltb, map, Message, nat_tests, needs_memory, next_turn, None, Now, numbered, Option, others_pending, Pending, performed, Prepared, refers, refl, Response, response_to, said_on, saying, Session, Some, subst, sym, Tell, Terms, true, ℕ, ◌++◌, ◌+◌, ◌<◌, ◌∙◌, ◌∷◌, ◌≡◌, ◌≤◌}
+use Rattle.std.specs.Prelude.{Result}
 use Rattle.replies.specs.declared.event.Event.{Event}
-use Rattle.replies.specs.declared.message.Message.TheVariants.{Response, Event as IsEvent}
+use Rattle.replies.specs.declared.message.Message.TheVariants.{Event as IsEvent}
 use Rattle.handlers.specs.declared.change.Change.{Change}
-use Rattle.session.specs.Preparing.{IsPrepared, draft_of}
 use Rattle.handlers.specs.declared.answer.Answer.{Answer as AnAnswer}
-use Rattle.handlers.specs.Given.{Answering, Lent}
-use Rattle.session.specs.Acts.{Act, Now, Tell, agreed, given_of, numbered, refers}
-use Rattle.queues.specs.Arrivals.{first_pending, others_pending}
-use Rattle.session.specs.Outcomes.{answer_to, answering, closing, needs_memory, next_turn}
-use Rattle.handlers.specs.Changes.{answering_as, call_of, changed}
-use Rattle.session.specs.Kept.{Kept, Drafted, alone, kept_changed, draft_on, draft_told, drafted, drafted_all, keepings, keeps, kept_of, settled}
-use Rattle.handlers.specs.Refusals.{answer_of, response_to}
+use Rattle.session.specs.Kept.{settled}
 use Rattle.queues.specs.Writing.{frame_of}
 
 -- on this connection, where these requests wait
@@ -27,7 +19,7 @@ settling l rest d k = record k { now = settled l d.seq rest k.now; waiting = k.w
 abbrev next_frame : Drafted → Message → Drafted
 next_frame d m = record { bytes = d.bytes ++ frame_of (d.seq + 1) m; seq = d.seq + 1 }
 
--- after some messages, of which there was one at least, by the test whether the last number was given
+-- after some messages, at least one, by the test whether the last number was given
 abbrev after : Bool → Link → List Pending → Kept → Drafted → Kept
 after b link rest k d = record k {
   now = record k.now {

@@ -1,12 +1,7 @@
--- So many beats end each slice, in each world of sessions in which what is done to the program is done, and what is told of a tick leaves what it concludes.
-use Rattle.std.proofs.Common.{◌≡◌, ℕ, zero, suc, ◌+◌, ◌-◌, ◌*◌, ◌<◌, ◌≤◌, Bool, true, false, ltb, [], ◌∷◌, Option, Some, None, refl, sym, ap, ◌∙◌, subst, arith}
-use Rattle.session.proofs.Common.{concluded, entered, FULL, Mark, moved, nat_tests, next_tick, not, Now, Program, SliceEnd, stays, Tick, told, why_marked}
+-- `enough` beats end each slice, in each world where what is done to the program is done, and telling a tick leaves what it concludes.
+use Rattle.session.proofs.Common.{[], after_beat, ap, arith, beat, Beat, beat_by, beat_of, beats, becomes, Bool, concluded, Ended, ending_of, ends, enough, entered, false, FULL, goes, goes_unless, is_at_limit, is_runnable_by, ltb, makes_move, Mark, moved, moves_by, nat_tests, next_beat, next_by, next_tick, None, not, Now, Option, Outcome, performed, Program, refl, runs, sliced, SliceEnd, Slicing, Some, stays, Stopped, stops, subst, suc, sym, telling, Tick, told, true, Went, why_marked, World, zero, ℕ, ◌*◌, ◌+◌, ◌-◌, ◌<◌, ◌∙◌, ◌∷◌, ◌≡◌, ◌≤◌}
 use Rattle.debuggee.specs.declared.run.Why.TheVariants as why
 use Rattle.session.specs.declared.event.SliceEnd.TheVariants as ending
-use Rattle.session.specs.Effects.{Slicing, after_beat, beats, enough, next_beat, next_by, sliced, World, performed}
-use Rattle.session.specs.Slices.{Beat, beat, beat_by, beat_of, becomes, ending_of, ends, goes, goes_unless, is_at_limit, is_runnable_by, makes_move, moves_by, runs, stops, telling}
-use Rattle.stepping.specs.declared.tick.Outcome.{Outcome}
-use Rattle.stepping.specs.declared.tick.Outcome.TheVariants.{Went, Stopped, Ended}
 use Rattle.session.proofs.Advancing.{move_leaves}
 use Rattle.session.proofs.Reaching.{if_keeps}
 use Rattle.session.proofs.ByMove.{by_move}
@@ -55,7 +50,7 @@ pub record Follows {S : Type 0} (w : World S) : Type 0 where
       → program_in w (performed w (telling (w.see s).now p tick) s) ≡ Some (concluded tick.outcome (told p))
 
 module _ {S : Type 0} (w : World S) (h : Follows w) where
-  -- ---- a beat that goes on lowers it
+  -- ---- a beat that continues the slice lowers it
 
   abbrev Falls : ℕ → ℕ → S → Option Program → Beat → Type 0
   Falls n m k program b = b.ending ≡ None → rank n (m + b.moved) (program_in w (after_beat w b k)) < rank n m program

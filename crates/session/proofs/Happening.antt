@@ -1,10 +1,6 @@
--- What goes so on what is kept happens so to each session that it stands for.
-use Rattle.std.proofs.Common.{◌≡◌, ℕ, Option, Some, None, Result, Ok, Err, sym, ◌∙◌, subst}
-use Rattle.session.proofs.Common.{Applied, EventError, histories, Session}
-use Rattle.session.specs.declared.event.Event.{Event}
+-- What `Goes` says of what is kept, `Happens` says of each session that it represents.
+use Rattle.session.proofs.Common.{answer, Applied, effect, Ends, EndsWell, Err, Event, EventError, Goes, Happens, histories, keepings, Kept, kept_of, moves_asked, None, Ok, Option, ran_out, Result, Session, Some, Stands, subst, sym, ℕ, ◌∙◌, ◌≡◌}
 use Rattle.session.specs.declared.event.EventError.TheVariants.{NotConnected, AlreadyConnected, Busy, SentTooMuch, PieceTooLong, Closing, NoMemory, Spent}
-use Rattle.session.specs.Effects.{Ends, EndsWell, moves_asked, ran_out, effect, answer}
-use Rattle.session.specs.Kept.{Kept, Stands, Goes, Happens, keepings, kept_of}
 use Rattle.session.proofs.Standing.{answer_kept, breaks_kept, effect_kept}
 
 module _ (e : Event) (new : Kept) (s : Session) where

@@ -1,35 +1,29 @@
--- What comes of a request that looks into the program, or sets something in it, case by case.
-use Rattle.std.proofs.Common.{◌≡◌, ℕ, ℤ, pos, negsuc, true, false, eqb, ltb, List, length, Option, Some, None, Result, Ok, Err, refl, subst}
-use Rattle.std.specs.Prelude.{IsTrue, MatchResult, MatchOption, ⊤, take, codes, bytes_eq, ◌==◌}
+-- The answer to a request that looks into the program, or sets something in it, case by case.
+use Rattle.session.proofs.Common.{agreeing, Answering, bytes_eq, changing, codes, Command, Debugged, Disassemble, Done, eqb, Err, Evaluate, false, fitting, found_in, Given, Hart, has_name, has_room, has_text, initializes, issues, IsTrue, length, List, looks_in, looks_on, ltb, MatchOption, MatchResult, negsuc, None, NotWritable, Numbers, Ok, Option, Program, ReadMemory, ReferencesExhausted, refl, Refusal, refusing, ResponseBody, Result, Scopes, seen_in, set_in, set_variable, Setting, setting_of, SetVariableArguments, shows_by, Some, StackTrace, start_by as written_from, subst, take, Terms, true, UnknownName, Variables, with_hart, write_memory, WriteMemoryArguments, Writing, written, ℕ, ℤ, ⊤, ◌==◌, ◌≡◌}
+use Rattle.std.proofs.Common.{pos}
 use Rattle.std.specs.Result.{result_err}
 use Rattle.answers.specs.Disassemble.{disassembled, start_by as place_by}
 use Rattle.answers.specs.Evaluate.{if_valued, unless_refused, valued}
-use Rattle.session.proofs.Common.{agreeing, Answering, changing, Command, Debugged, Done, Given, Hart, has_text, initializes, looks_in, Program, Refusal, refusing, ResponseBody, Setting, SetVariableArguments, Terms, with_hart, WriteMemoryArguments, Writing, written}
 use Rattle.answers.specs.ReadMemory.{can_begin, read, start_at, start_by as read_from}
 use Rattle.numerals.specs.MemoryReferences.{offset_by}
 use Rattle.numerals.specs.Words.{word_of}
 use Rattle.answers.specs.Expressions.{expression_of}
 use Rattle.answers.specs.Scopes.{body_by as scopes_by}
-use Rattle.answers.specs.SetVariable.{has_name, set_in, set_variable, setting_of}
 use Rattle.answers.specs.Targets.{frame_of, frame_refusal, if_frame, refused, target_of}
 use Rattle.answers.specs.Variables.{body_by as variables_by, variables_in}
-use Rattle.answers.specs.WriteMemory.{fitting, start_by as written_from, write_memory, written as written_by}
+use Rattle.answers.specs.WriteMemory.{written as written_by}
 use Rattle.expressions.specs.Trees.{Tree}
 use Rattle.expressions.specs.Values.{value_of}
 use Rattle.expressions.specs.declared.error.ExprFault.{ExprFault}
-use Rattle.protocol.specs.declared.command.Command.TheVariants.{StackTrace, Scopes, Variables, Evaluate, Disassemble, ReadMemory}
 use Rattle.protocol.specs.declared.disassemble.DisassembleArguments.{DisassembleArguments}
 use Rattle.protocol.specs.declared.read_memory.ReadMemoryArguments.{ReadMemoryArguments}
-use Rattle.protocol.specs.declared.refusal.Refusal.TheVariants.{NotWritable, ReferencesExhausted, UnknownName}
 use Rattle.protocol.specs.declared.variables.VariablesArguments.{VariablesArguments}
 use Rattle.replies.specs.declared.response.ResponseBody.TheVariants as body
 use Rattle.rv32i.specs.Names.{number_named}
-use Rattle.handlers.specs.Looking.{issues, looks_on, seen_in, shows_by}
 use Rattle.handlers.specs.SetVariable.{sets_by, sets_on}
 use Rattle.handlers.specs.WriteMemory.{writes_by, writes_on}
 use Rattle.session.proofs.Breaking.{IsPlain}
 use Rattle.session.proofs.Reaching.{if_keeps}
-use Rattle.variables.specs.Numbers.{Numbers, found_in, has_room}
 use Rattle.variables.specs.Registers.{name_answer, unless_zero}
 use Rattle.variables.specs.Stack.{stack_words}
 use Rattle.variables.specs.Values.{value_of as value_in}

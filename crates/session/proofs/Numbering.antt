@@ -1,6 +1,5 @@
 -- The references that an answer issues have numbers.
-use Rattle.session.proofs.Common.{answer_to, Answering, Call, call_of, given_of, IsPrepared, List, Now, Option, Pending, Prepared, subst, sym, Terms, ℕ}
-use Rattle.session.specs.Kept.{HasNumbers}
+use Rattle.session.proofs.Common.{answer_to, Answering, Call, call_of, given_of, HasNumbers, IsPrepared, List, Now, Option, Pending, Prepared, subst, sym, Terms, ℕ}
 use Rattle.session.proofs.Serving.{of_answer}
 use Rattle.session.proofs.BySuccess.{BySuccess, by_success}
 

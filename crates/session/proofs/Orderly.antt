@@ -1,17 +1,12 @@
 -- What the editor is told of the program has numbers of 32 bits: breakpoints have such numbers, and so have lines and an end.
-use Rattle.std.proofs.Common.{◌≡◌, ℕ, ℤ, ◌+◌, ◌<◌, Bool, true, false, List, [], ◌∷◌, ◌++◌, map, filter, Option, Some, None, Result, Ok, refl, sym, ap, ◌∙◌, subst, arith}
-use Rattle.std.specs.Prelude.{All, ◌^◌, ◌&&◌, ◌≤ℤ◌, not, int_le, pos, neg_ℤ}
+use Rattle.session.proofs.Common.{[], All, AllocError, ap, arith, Back, Bool, by_tick, checked, Command, counted, Debugged, Debuggee, ended, Ended, entered, entry_checked, entry_tick, false, filter, first_run, fresh, Go, Goal, gone_back, Hart, hit_at_pc, ids_where, In, Instr, int_le, is_ended, is_hit, is_running, is_signed_word, is_word, IsTick, just_loaded, left, List, Lists, log_event, looked, looked_at, map, Mark, marked, marked_by, moved, moved_as, neg_ℤ, next_tick, None, not, Ok, on_program, Option, Out, Outcome, output_event, Over, owing_by, Placed, pos, Position, Program, reason_of, refl, reset, restarted, Result, resumed, ReverseGo, Run, SetBreakpoints, SetFunctionBreakpoints, SetInstructionBreakpoints, settled, Some, stands, Stepped, stop_event, stopped, Stopped, stopping_ids, subst, sym, text_of, the_tick, Tick, told, true, undone, undone_by, Wanted, Went, Why, with_hart, with_list, written, ℕ, ℤ, ◌&&◌, ◌++◌, ◌+◌, ◌<◌, ◌^◌, ◌∙◌, ◌∷◌, ◌≡◌, ◌≤ℤ◌}
 use Rattle.std.specs.List.{list_all}
-use Rattle.session.proofs.Common.{AllocError, Back, by_tick, Command, Go, Goal, Hart, In, Instr, Mark, Out, Over, Position, ReverseGo, Run, Stepped, the_tick, Tick, Why}
-use Rattle.protocol.specs.declared.command.Command.TheVariants.{SetBreakpoints, SetFunctionBreakpoints, SetInstructionBreakpoints}
 use Rattle.std.proofs.lemmas.Int.{ints}
 use Rattle.assembler.specs.Assembled.{IsNarrowRow}
-use Rattle.breakpoints.specs.Stops.{Lists, Placed, Wanted, checked, counted, fresh, ids_where, is_hit, looked, reset, stands, stops, stopping_ids}
-use Rattle.debuggee.specs.Programs.{Debuggee, Program, ended, entered, first_run, is_ended, is_running, just_loaded, left, marked, marked_by, moved, next_tick, on_program, owing_by, restarted, resumed, stopped, told, with_hart, written}
+use Rattle.breakpoints.specs.Stops.{stops}
 use Rattle.debuggee.specs.declared.run.Run.TheVariants as run
 use Rattle.debuggee.specs.declared.run.Why.TheVariants as why
 use Rattle.image.specs.declared.Image.{Image}
-use Rattle.message_parts.specs.Forms.{is_signed_word, is_word}
 use Rattle.message_parts.specs.declared.stopped.Reason.{Reason as AReason}
 use Rattle.replies.specs.Events.{IsProperEvent}
 use Rattle.replies.specs.declared.event.Event.TheVariants as event
@@ -24,13 +19,8 @@ use Rattle.range_laws.specs.Programs.{ProgramInRange}
 use Rattle.range_laws.proofs.Programs.{ended_in_range, entered_in_range, first_run_in_range, just_loaded_in_range, left_in_range, moved_in_range, restarted_in_range, resumed_in_range, stopped_in_range, told_in_range, with_functions_in_range, with_hart_in_range, with_instructions_in_range, with_source_in_range, written_in_range}
 use Rattle.stepping.specs.Loading.{no_breakpoints}
 use Rattle.stepping.specs.RunLaws.{HasSignedCode}
-use Rattle.stepping.specs.Ticks.{Debugged, IsTick, entry_checked, entry_tick, gone_back, hit_at_pc, looked_at, moved_as, settled, undone, undone_by}
-use Rattle.stepping.specs.declared.tick.Outcome.{Outcome}
-use Rattle.stepping.specs.declared.tick.Outcome.TheVariants.{Went, Stopped, Ended}
 use Rattle.stepping.proofs.Exiting.{ends_with_codes, no_end}
-use Rattle.handlers.specs.Breaks.{with_list}
 use Rattle.handlers.specs.Disconnect.{departed}
-use Rattle.handlers.specs.Telling.{log_event, output_event, stop_event, text_of, reason_of}
 use Rattle.session.proofs.Reaching.{if_keeps}
 
 -- ---- numbers
@@ -120,23 +110,17 @@ reset_orderly lists h = record {
 
 settled_orderly : (s : Stepped) (instr : Option Instr) (before d : Debugged) → AreOrderly d.lists
     → AreOrderly (settled s instr before d).lists
-settled_orderly stepped.Retired instr before d h = checked_orderly d.hart.pc d.hart d.memory d.lists h
-settled_orderly (stepped.Printed number) instr before d h = checked_orderly d.hart.pc d.hart d.memory d.lists h
-settled_orderly stepped.Break instr before d h = checked_orderly d.hart.pc d.hart d.memory d.lists h
 settled_orderly (stepped.Exit code) instr before d h = none_named d.lists h
 settled_orderly (stepped.Trap cause) instr before d h = none_named d.lists h
+settled_orderly _ instr before d h = checked_orderly d.hart.pc d.hart d.memory d.lists h
 
 undone_orderly : (past : List Position) (d : Debugged) → AreOrderly d.lists → AreOrderly (undone_by past d).lists
 undone_orderly [] d h = h
 undone_orderly (before ∷ past) d h = h
 
 looked_at_orderly : (goal : Goal) (d : Debugged) → AreOrderly d.lists → AreOrderly (looked_at goal d).lists
-looked_at_orderly Go d h = none_named d.lists h
-looked_at_orderly (In granularity) d h = none_named d.lists h
-looked_at_orderly (Over granularity) d h = none_named d.lists h
-looked_at_orderly (Out granularity) d h = none_named d.lists h
-looked_at_orderly Back d h = none_named d.lists h
 looked_at_orderly ReverseGo d h = looked_orderly d.hart.pc d.hart d.memory d.lists h
+looked_at_orderly _ d h = none_named d.lists h
 
 back_orderly : (d : Debugged) → AreOrderly d.lists → AreOrderly (gone_back d).lists
 back_orderly d h = looked_at_orderly d.goal (undone d) (undone_orderly d.past d h)

@@ -1,11 +1,7 @@
 -- What holds at the start, and is kept by each event and by each cut slice, holds of whatever is reached; and what each act keeps, these do.
-use Rattle.std.proofs.Common.{◌≡◌, ℕ, zero, suc, Bool, true, false, cond, ltb, List, [], ◌∷◌, ◌++◌, map, Option, Some, None, get_or, refl}
-use Rattle.session.proofs.Common.{Act, All, beat, Connect, DropConnection, Hold, outcome, Recv, Sent, Slice, SliceEnd, Turn}
+use Rattle.session.proofs.Common.{[], Act, after_all, All, beat, beats, Beginning, Bool, cond, Connect, DropConnection, Effect, enough, Event, false, get_or, histories, Hold, Life, life_of, List, lives, ltb, map, next_by, no_life, None, Option, outcome, performed, performed_on, Recv, refl, Sent, Session, Slice, SliceEnd, Some, start, suc, true, Turn, zero, ℕ, ◌++◌, ◌∷◌, ◌≡◌}
 use Rattle.std.proofs.lemmas.List.Elements.{All-push, All-head, All-tail}
-use Rattle.session.specs.declared.event.Event.{Event}
-use Rattle.session.specs.Effects.{performed, after_all, beats, enough, next_by}
 use Rattle.session.specs.Reached.{Happened, Whole, Cut, Reached, leaves, led_to}
-use Rattle.session.specs.Sessions.{Beginning, Session, Life, no_life, lives, life_of, performed_on, histories, Effect, start}
 
 -- what holds of either choice holds of the one that is made
 pub if_keeps : {A : Type 0} (P : A → Type 0) (b : Bool) (x y : A) → (b ≡ true → P x) → (b ≡ false → P y) → P (cond b x y)

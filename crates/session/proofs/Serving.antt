@@ -1,15 +1,10 @@
 -- An answer refuses, or it is the success of a request that the phase takes: so a request that could not be read is refused.
-use Rattle.std.proofs.Common.{◌≡◌, ℕ, Bool, true, false, List, [], ◌∷◌, ◌++◌, Option, Some, None, ◌⊎◌, inl, inr, refl}
-use Rattle.std.specs.Prelude.{not, ◌&&◌}
-use Rattle.session.proofs.Common.{answer_to, Answering, demand_of, given_of, has_text, is_taken_in, Now, Refusal, refusing, Run, success_of, Terms}
-use Rattle.protocol.specs.declared.refusal.Refusal.TheVariants.{RepeatedSequence, Cancelled as IsCancelled, WrongPhase, RequestGone, NoMachine, Ended, NoThread, NotStopped}
+use Rattle.session.proofs.Common.{[], answer_by, answer_to, Answering, Bool, Cancelled as IsCancelled, demand_of, false, first_refusal, given_of, goes_on, has_ended, has_none, has_text, inl, inr, is_cancelled, is_no_thread, is_repeat, is_taken_in, List, misread, names_none, NoMachine, None, not, NoThread, NotStopped, Now, Option, refl, Refusal, refusing, RepeatedSequence, RequestGone, Run, run_of, Some, success_of, Terms, true, unmet, where_so, WrongPhase, ℕ, ◌&&◌, ◌++◌, ◌∷◌, ◌≡◌, ◌⊎◌}
+use Rattle.protocol.specs.declared.refusal.Refusal.TheVariants.{Ended}
 use Rattle.protocol.specs.declared.request.Request.{Request as ARequest}
 use Rattle.queues.specs.declared.pending.Ask.{Ask}
 use Rattle.queues.specs.declared.pending.Ask.TheVariants.{Request, Bad}
 use Rattle.queues.specs.declared.pending.Fate.{Fate}
-use Rattle.queues.specs.Arrivals.{is_repeat}
-use Rattle.handlers.specs.Refusals.{is_cancelled, misread, names_none, where_so, first_refusal, answer_by, unmet}
-use Rattle.handlers.specs.Demands.{goes_on, has_ended, has_none, is_no_thread, run_of}
 use Rattle.handlers.specs.declared.demand.Demand.{Demand}
 
 -- what holds where a reason applies, and where the others decide, holds

@@ -1,18 +1,14 @@
 -- A slice, stretch by stretch.
-use Rattle.std.proofs.Common.{List, ◌≡◌, ℕ, ◌+◌, ◌-◌, ◌≤◌, Option, Some, None, Result, Ok, refl, sym, ap, ◌∙◌, subst, arith, ltb}
-use Rattle.session.proofs.Common.{Applied, EventError, Link, Now, Pending, Slice, SliceEnd, told}
+use Rattle.session.proofs.Common.{answer, ap, Applied, arith, beats, beats_on, concluded, EndsWell, enough, EventError, from_here, going, keepings, Kept, Link, List, ltb, MayLack, None, Now, Ok, Option, Pending, ran_out_at, Reached, refl, Result, Slice, slice_answer, sliced, SliceEnd, Slicing, Some, Step, Stretches, subst, sym, told, unless_memory, ℕ, ◌+◌, ◌-◌, ◌∙◌, ◌≡◌, ◌≤◌}
 use Rattle.session.specs.declared.event.Applied.TheVariants.{Slice as DidSlice}
 use Rattle.session.specs.declared.event.SliceEnd.TheVariants.{Spent, Full, Idle, Stopped, Ended, NoMemory}
-use Rattle.session.specs.declared.slices.Step.{Step}
-use Rattle.session.specs.Beats.{Reached, Stretches, going, unless_memory, concluded}
-use Rattle.session.specs.Effects.{EndsWell, Slicing, MayLack, answer, beats, beats_on, enough, from_here, ran_out_at, slice_answer, sliced}
-use Rattle.session.specs.Kept.{Kept, keepings, settled}
+use Rattle.session.specs.Kept.{settled}
 use Rattle.session.proofs.Advancing.{beats_after}
 use Rattle.session.proofs.Enough.{is_sliced, not_after, Follows}
 use Rattle.session.proofs.Told.{tick_tells, with_one}
 use Rattle.session.proofs.Reaching.{if_keeps}
 
--- ---- so many beats end a slice of what is kept
+-- ---- `enough` beats end a slice of what is kept
 
 settled_program : (l : Option Link) (seq : ℕ) (rest : List Pending) (now : Now)
     → (settled l seq rest now).debuggee.program ≡ now.debuggee.program
@@ -31,7 +27,7 @@ keepings_follow = record {
 pub begins_slice : (n : ℕ) (s : Kept) → Reached n 0 s 0 s
 begins_slice n s = record { count = 0; goes = refl; few = omega arith; within = omega arith }
 
--- so many beats more
+-- some beats more
 abbrev After : ℕ → Kept → ℕ → Kept → Step → Option SliceEnd → Type 0
 After n s m new step e = (count : ℕ) × (beats keepings n count s ≡ record { state = new; moved = m + step.moved; ending = unless_memory e })
 

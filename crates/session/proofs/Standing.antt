@@ -1,15 +1,9 @@
 -- What is kept after an act, a slice or an event depends on what was kept alone, and so does the answer: no past is needed.
-use Rattle.std.proofs.Common.{◌≡◌, ℕ, zero, suc, ◌+◌, Bool, true, false, cond, ltb, List, [], ◌∷◌, Option, Some, None, Result, Ok, refl, sym, ap, ◌∙◌, subst}
-use Rattle.session.proofs.Common.{Applied, beat, Call, Connect, DropConnection, EventError, Hold, Link, Message, outcome, Pending, Program, Recv, response_to, Sent, Slice, SliceEnd, Terms, Turn}
-use Rattle.replies.specs.declared.message.Message.TheVariants.{Response, Event as IsEvent}
+use Rattle.session.proofs.Common.{[], Accept, accepted_on, Act, Agree, agreed_on, alone, answer, ap, Applied, beat, beats, Become, Beginning, Bool, BreaksOff, Call, Close, cond, Connect, DropConnection, effect, enough, Event, EventError, false, HangUp, histories, Hold, hung_on, keepings, keeps, Kept, kept_of, Link, List, ltb, MayLack, Message, next_beat, next_by, None, nothing_kept, Ok, Open, opened_on, Option, outcome, Pending, performed, performed_on, Program, Recv, Refer, referred_on, refl, replied_on, Reply, Response, response_to, Result, said_on, Sent, Session, Slice, slice_answer, SliceEnd, Slicing, Some, Stands, start, subst, suc, sym, Take, Tell, Terms, true, Turn, zero, ℕ, ◌+◌, ◌∙◌, ◌∷◌, ◌≡◌}
+use Rattle.replies.specs.declared.message.Message.TheVariants.{Event as IsEvent}
 use Rattle.replies.specs.declared.response.Outcome.{Outcome}
 use Rattle.session.specs.declared.event.Applied.TheVariants.{Slice as DidSlice}
-use Rattle.session.specs.declared.event.Event.{Event}
-use Rattle.session.specs.Acts.{Act, Open, Close, Accept, Agree, Become, Refer, Reply, Tell, HangUp, Take}
 use Rattle.session.specs.Config.{first_program}
-use Rattle.session.specs.Effects.{BreaksOff, MayLack, Slicing, answer, beats, effect, enough, next_beat, next_by, performed, slice_answer}
-use Rattle.session.specs.Kept.{Kept, Stands, alone, keepings, keeps, kept_of, nothing_kept}
-use Rattle.session.specs.Sessions.{Beginning, Session, accepted_on, agreed_on, histories, hung_on, opened_on, performed_on, referred_on, replied_on, said_on, start}
 
 -- ---- an act
 

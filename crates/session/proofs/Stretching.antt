@@ -1,17 +1,12 @@
--- Beats of a slice: one, or many of which there is nothing to tell.
-use Rattle.std.proofs.Common.{◌≡◌, ℕ, ◌+◌, Bool, true, false, ◌&&◌, cond, ltb, List, [], ◌∷◌, map, Option, Some, None, inl, refl, sym, ap, ◌∙◌, subst, arith}
+-- Beats of a slice: one, or many that leave nothing to tell.
+use Rattle.session.proofs.Common.{[], after_beat, ap, arith, beat, Beat, beat_by, beat_of, beats_on, becomes, Bool, concludes, cond, Decides, ended, Ended, ending_of, ends, entered, false, going, halts, inl, is_active, is_owed, is_owed_by, is_to_tell, IsFree, keepings, Kept, List, ltb, map, MayLack, moves_by, nat_tests, needs_memory, next_tick, None, Now, Option, Outcome, owed_of, performed, Program, refl, SliceEnd, Slicing, Some, stays, stop_event, stopped, Stopped, stops, Stretches, subst, sym, Tell, telling, tells as telling_of, Tick, true, unless_memory, Went, Why, ℕ, ◌+◌, ◌∙◌, ◌∷◌, ◌≡◌}
+use Rattle.std.proofs.Common.{◌&&◌}
 use Rattle.std.proofs.lemmas.Bool.{or_left, or_right}
 use Rattle.replies.specs.declared.event.Event.{Event as Told}
 use Rattle.replies.specs.declared.event.Event.TheVariants as event
-use Rattle.session.proofs.Common.{after_beat, beats_on, ended, entered, is_active, keepings, Kept, MayLack, nat_tests, next_tick, Now, performed, Program, SliceEnd, Slicing, stays, stop_event, stopped, Tell, Tick, Why}
-use Rattle.session.specs.Outcomes.{is_owed, is_owed_by, is_to_tell, needs_memory}
 use Rattle.debuggee.specs.declared.run.Why.TheVariants as why
 use Rattle.session.specs.declared.event.SliceEnd.TheVariants as ending
 use Rattle.session.specs.declared.slices.Next.TheVariants as next
-use Rattle.session.specs.Beats.{Decides, Stretches, going, owed_of, unless_memory}
-use Rattle.session.specs.Slices.{Beat, IsFree, beat, beat_by, beat_of, becomes, concludes, ending_of, ends, halts, moves_by, stops, telling, tells as telling_of}
-use Rattle.stepping.specs.declared.tick.Outcome.{Outcome}
-use Rattle.stepping.specs.declared.tick.Outcome.TheVariants.{Went, Stopped, Ended}
 use Rattle.session.proofs.Deciding.{free_beat}
 use Rattle.session.proofs.ByMove.{by_move}
 

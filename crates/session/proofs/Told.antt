@@ -1,14 +1,8 @@
 -- What a beat tells is written first, and numbered at once.
-use Rattle.std.proofs.Common.{◌≡◌, ℕ, Bool, true, false, cond, ltb, List, [], ◌∷◌, ◌++◌, map, Option, Some, None, Result, Ok, Err, OnOk, refl, sym, ap, ◌∙◌, append-nil}
-use Rattle.session.proofs.Common.{Act, alone, Become, Debuggee, draft_on, draft_told, Drafted, drafted, drafted_all, ended, is_active, keepings, keeps, Kept, kept_of, Limits, Link, Message, Pending, performed, Program, said_on, saying, stays, stopped, Tell, Tick, told, Why}
+use Rattle.session.proofs.Common.{[], Act, alone, ap, append-nil, Become, Bool, concluded, concludes, cond, Debuggee, draft_on, draft_told, Drafted, drafted, drafted_all, ended, Ended, Err, exit_events, false, halts, is_active, keepings, keeps, Kept, kept_of, Limits, Link, List, log_event, logged, ltb, map, Message, None, Ok, OnOk, Option, Outcome, outcome_events, output_events, Pending, performed, printed_events, Program, queued_with, refl, Result, said_on, saying, Some, stays, stop_event, stopped, Stopped, sym, Tell, telling, Tick, tick_events, told, true, Went, Why, ℕ, ◌++◌, ◌∙◌, ◌∷◌, ◌≡◌}
 use Rattle.debuggee.specs.declared.run.Why.TheVariants as why
 use Rattle.replies.specs.declared.event.Event.{Event}
 use Rattle.replies.specs.declared.message.Message.TheVariants.{Event as IsEvent}
-use Rattle.session.specs.Beats.{concluded, outcome_events, queued_with, tick_events}
-use Rattle.session.specs.Slices.{concludes, halts, logged, output_events, printed_events, telling}
-use Rattle.handlers.specs.Telling.{exit_events, log_event, stop_event}
-use Rattle.stepping.specs.declared.tick.Outcome.{Outcome}
-use Rattle.stepping.specs.declared.tick.Outcome.TheVariants.{Went, Stopped, Ended}
 use Rattle.session.proofs.Drafting.{settling, tells_if, tells_told}
 
 abbrev pub debugging : Debuggee → Kept → Kept

@@ -1,7 +1,5 @@
 -- The file that the answer to the first request wants.
-use Rattle.session.proofs.Common.{[], ap, first_pending, Link, List, None, Now, Option, Pending, Phase, refl, Run, run_of, Some, sym, ℕ, ◌∙◌, ◌∷◌, ◌≡◌}
-use Rattle.handlers.specs.Refusals.{first_refusal, path_in, refusals, wanted_by}
-use Rattle.session.specs.Outcomes.{wanted_on}
+use Rattle.session.proofs.Common.{[], ap, first_pending, first_refusal, Link, List, None, Now, Option, path_in, Pending, Phase, refl, refusals, Run, run_of, Some, sym, wanted_by, wanted_on, ℕ, ◌∙◌, ◌∷◌, ◌≡◌}
 
 by_first : (run : Option Run) (phase : Phase) (pending : List Pending) (p : Pending) → Some p ≡ first_pending pending
     → wanted_by run phase pending ≡ path_in (first_refusal (refusals run phase p)) p.ask

@@ -1,11 +1,9 @@
 -- Where memory runs out over a text, nothing is wrong with it as a whole.
-use Rattle.std.proofs.Common.{◌≡◌, ℕ, Bool, true, false, cond, nat_lt, List, length, Option, Some, None, Result, Ok, Err, refl, sym, ap, ◌∙◌}
-use Rattle.std.specs.Prelude.{IfSome}
+use Rattle.session.proofs.Common.{ap, AsmError, Bool, cond, Err, false, IfSome, length, List, nat_lt, None, Ok, Option, refl, Result, Some, sym, true, ℕ, ◌∙◌, ◌≡◌}
 use Rattle.std.specs.Str.{is_utf8}
 use Rattle.std.specs.Str.Lossy.{utf8_valid_len}
 use Rattle.assembler.specs.Errors.{at}
 use Rattle.assembler.specs.Program.{line_at, text_limit, whole_error}
-use Rattle.assembler.specs.declared.error.AsmError.{AsmError}
 use Rattle.assembler.specs.declared.error.AsmErrorKind.TheVariants as k
 
 no_memory : (text : List ℕ) → IfSome (whole_error text) (λ e. e.kind ≡ k.NoMemory → ⊥)

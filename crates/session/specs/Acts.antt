@@ -28,7 +28,7 @@ use Rattle.queues.specs.Arrivals.{Arrivals, no_arrivals, all_joined, asks_of, me
 
 -- What a session is now, as far as no past is needed to say it: its limits, and how many bytes of memory a machine gets;
 -- how many connections were made; the present one, if there is one; the requests that came on it and wait for their
--- answers; what has come of the next frame; what closed the present connection or the last one, if something did; the
+-- answers; what has arrived of the next frame; what closed the present connection or the last one, if something did; the
 -- program that is debugged; and the numbers of the references that are good.
 pub record Now : Type 0 where
   pub limits : Limits
@@ -143,7 +143,7 @@ abbrev pub tail_kept : Option LinkFault → Tail → Tail
 tail_kept None tail = tail
 tail_kept (Some fault) tail = Partial []
 
--- what a piece is read as, after what has come of the next frame
+-- what a piece is read as, after what has arrived of the next frame
 abbrev pub read_on : Now → List ℕ → Reading
 read_on now piece = reading_after BODY_LIMIT now.tail piece
 

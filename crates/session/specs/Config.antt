@@ -27,7 +27,7 @@ abbrev pub HasError : Option (List ℕ × List ℕ) → ℕ → AsmError → Typ
 HasError None size error = ⊥
 HasError (Some program) size error = error_of program.1 size ≡ Some error
 
--- one is given, of which each line has to be read: it is not too long, and it is UTF-8
+-- one is given, and each of its lines has to be read: it is not too long, and it is UTF-8
 abbrev pub IsWhole : Option (List ℕ × List ℕ) → Type 0
 IsWhole None = ⊥
 IsWhole (Some program) = whole_error program.1 ≡ None

@@ -35,7 +35,7 @@ performed w (act ∷ acts) s = performed w acts (w.perform act s)
 
 -- ---- slices
 
--- a slice under way: what there is, how many moves were made, and how it ended, if it did
+-- a slice under way: the session then, how many moves were made, and how it ended, if it did
 pub record Slicing (S : Type 0) : Type 0 where
   pub state : S
   pub moved : ℕ
@@ -55,7 +55,7 @@ next_by w n None d = with_beat w (beat (w.see d.state) (nat_lt d.moved n)) d
 abbrev pub next_beat : {S : Type 0} → World S → ℕ → Slicing S → Slicing S
 next_beat w n d = next_by w n d.ending d
 
--- a slice under way, after so many beats more
+-- a slice under way, after this many beats more
 abbrev pub beats_on : {S : Type 0} → World S → ℕ → ℕ → Slicing S → Slicing S
 beats_on w n zero d = d
 beats_on w n (suc k) d = next_beat w n (beats_on w n k d)
@@ -63,11 +63,11 @@ beats_on w n (suc k) d = next_beat w n (beats_on w n k d)
 abbrev pub from_here : {S : Type 0} → S → Slicing S
 from_here s = record { state = s; moved = 0; ending = None }
 
--- a slice after so many beats
+-- a slice after this many beats
 abbrev pub beats : {S : Type 0} → World S → ℕ → ℕ → S → Slicing S
 beats w n k s = beats_on w n k (from_here s)
 
--- So many beats end each slice: what is owed, the check, what it owes, each move and what it owes, and the end.
+-- This many beats end each slice: what is owed, the check, what it owes, each move and what it owes, and the end.
 abbrev pub enough : ℕ → ℕ
 enough n = 2 * n + 4
 
@@ -142,7 +142,7 @@ moves_asked DropConnection = 0
 abbrev pub telling_may_lack : Seen → Bool → Bool
 telling_may_lack seen more = is_to_tell seen.now || needs_memory (beat seen more).acts
 
--- A beat is a move that may lack memory: it stores into a page of which each byte is 0, or undoes such a store.
+-- A beat is a move that may lack memory: it stores into a page whose bytes are all 0, or undoes such a store.
 pub record MoveMayLack (seen : Seen) (more : Bool) : Type 0 where
   pub goes : more ≡ true
   pub program : Program

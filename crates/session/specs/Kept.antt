@@ -1,4 +1,4 @@
--- What the code of a session keeps, and which sessions with a past it stands for.
+-- What the code of a session keeps, and which sessions with a past it represents.
 use Rattle.std.specs.Prelude.{◌≡◌, ℕ, nat_lt, ◌+◌, ◌==◌, if◌then◌else◌, true, List, [], ◌∷◌, ◌++◌}
 use Rattle.std.specs.Prelude.{length, Option, Some, None, Result, Ok, Err, ⊤}
 use Rattle.replies.specs.declared.message.Message.{Message}
@@ -33,7 +33,7 @@ pub record Kept : Type 0 where
 abbrev pub kept_of : Session → Kept
 kept_of s = record { now = s.now; waiting = s.waiting }
 
--- What is kept stands for each session of which it is kept.
+-- What is kept represents each session that it is kept of.
 abbrev pub Stands : Kept → Session → Type 0
 Stands k s = k ≡ kept_of s
 
@@ -113,12 +113,12 @@ abbrev pub answered : {X : Type 0} → (X → Applied) → Result X EventError �
 answered f (Ok x) = Ok (f x)
 answered f (Err e) = Err e
 
--- Whatever session with a past was stood for: the answer is the event's there, and what is kept then stands for what
+-- For each session with a past that was represented: the answer is the event's there, and what is kept then represents what
 -- the event leaves.
 pub record Happens (old : Kept) (e : Event) (result : Result Applied EventError) (new : Kept) : Type 0 where
   pub to_each : (s : Session) → Stands old s → Ends histories s e result (λ t. Stands new t)
 
--- what is so of each session with a past that is stood for
+-- what holds for each session with a past that is represented
 abbrev pub OfEach : Kept → (Session → Type 0) → Type 0
 OfEach k P = (s : Session) → Stands k s → P s
 

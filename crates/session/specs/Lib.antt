@@ -25,13 +25,13 @@ pub mod Sessions
 pub mod Reached
 -- a prefix of a list
 pub mod Prefixes
--- what the code keeps, which sessions that stands for (`Stands`), and what a call does for each of them (`Happens`);
+-- what the code keeps, which sessions that represents (`Stands`), and what a call does for each of them (`Happens`);
 -- of these definitions `Goes` and what it needs are for private clauses alone
 pub mod Kept
-pub mod Preparing
-pub mod Beats
 -- what a session is at first
 pub mod Begins
+-- what private clauses alone cite
+pub mod Private
 -- ---- of the layers below
 -- frames, and each fault of one
 pub use Rattle.framing.specs.Frames
@@ -39,7 +39,7 @@ pub use Rattle.framing.specs.Frames
 pub use Rattle.framing.specs.Reading
 -- a stream that comes in pieces
 pub use Rattle.framing.specs.Streams
--- the table of the requests, and what comes of each
+-- the table of the requests, and how each is answered
 pub use Rattle.protocol.specs.Commands
 pub use Rattle.handlers.specs.Requests
 -- the requests that wait; why one is refused, and what it is answered else
@@ -48,7 +48,7 @@ pub use Rattle.handlers.specs.Refusals
 -- a message with its number, as text, and the frame of it
 pub use Rattle.replies.specs.Messages
 pub use Rattle.queues.specs.Writing
--- what can be known of a machine, what there is to see, and what a snapshot keeps of it
+-- what can be known of a machine, what an editor can see, and what a snapshot keeps of it
 pub use Rattle.facts.specs.Facts
 pub use Rattle.snapshots.specs.Shown
 pub use Rattle.snapshots.specs.Snapshots

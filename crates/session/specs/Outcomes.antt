@@ -4,7 +4,7 @@
 --
 -- A connection takes pieces of a stream until it is closing. It is closing once its stream has a fault, once
 -- `disconnect` was answered, and once its last number was given to a message. A fault is a body that is no message, or
--- a stream that goes on as no frame can, whichever comes first; what comes after it is dropped, and what came before
+-- a stream that continues as no frame can, whichever comes first; what comes after it is dropped, and what came before
 -- it is still answered. When the last number was given, nothing can be answered any more, and the requests that wait
 -- are dropped.
 use Rattle.std.specs.Prelude.{◌≡◌, refl, ℕ, ◌+◌, ◌==◌, nat_lt, nat_le, Bool, true, false, ◌&&◌, ◌||◌, if◌then◌else◌}
@@ -43,14 +43,14 @@ greatest_body = refl
 longest_piece : MOST_PIECE ≡ 65536
 longest_piece = refl
 
--- so many requests may wait when a piece comes, and so many bytes when a request is answered
+-- a piece is refused where this many requests wait, and no request is answered where more than this many bytes wait
 most_that_wait : MOST_PENDING ≡ 256
 most_that_wait = refl
 
 full : FULL ≡ 65536
 full = refl
 
--- so many connections may be made
+-- at most this many connections are made
 last_connection : LAST_CONNECTION ≡ 4294967295
 last_connection = refl
 
@@ -58,7 +58,7 @@ last_connection = refl
 abbrev pub needs_memory : List Act → Bool
 needs_memory acts = list_any grows acts
 
--- what comes of an event: its answer, and its acts
+-- what an event leads to: its answer, and its acts
 pub record Outcome : Type 0 where
   pub answer : Result Applied EventError
   pub acts : List Act

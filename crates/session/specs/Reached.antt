@@ -10,7 +10,7 @@ use Rattle.session.specs.declared.event.Event.{Event}
 use Rattle.session.specs.Effects.{beats}
 use Rattle.session.specs.Sessions.{Beginning, Effect, Session, histories, start}
 
--- what happened: an event; or a slice of so many moves of which only so many beats were made
+-- what happened: an event; or a slice, of this many moves, cut after this many beats
 pub data Happened : Type 0 where
   Whole : Event → Happened
   Cut : ℕ → ℕ → Happened

@@ -2,10 +2,10 @@
 -- References").
 --
 -- Their numbers are those of `variables`: they rise from 1 for as long as the server lives, and one of an earlier stop is
--- stale. A stop ends for them where the program is let go on, where it is loaded anew, and where an editor leaves or its
+-- stale. A stop ends for them where the program continues, where it is loaded anew, and where an editor leaves or its
 -- connection ends. So a reference is good in the stop and on the connection on which it was issued, and nowhere else.
 --
--- What is kept is the numbers of the stop that lasts. What they stand for is all references that were ever issued, each
+-- What is kept is the numbers of the stop that lasts. They represent all references that were ever issued, each
 -- with the stop and the connection.
 use Rattle.std.specs.Prelude.{ℕ, ◌+◌, List, [], ◌∷◌, map, Option, Some, None}
 use Rattle.variables.specs.Laws.{Call}

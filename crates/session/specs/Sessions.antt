@@ -37,7 +37,7 @@ use Rattle.snapshots.specs.Shown.{Snapshot}
 use Rattle.handlers.specs.Refusals.{response_to}
 use Rattle.queues.specs.Writing.{frame_of}
 
--- a message as it was queued, with its number, and what there was to see then
+-- a message as it was queued, with its number, and what an editor could see then
 pub record Said : Type 0 where
   pub seq : ℕ
   pub message : Message
@@ -81,7 +81,7 @@ frame_said m = frame_of m.seq m.message
 abbrev pub bytes_of : Life → List ℕ
 bytes_of life = flat_map frame_said life.said
 
--- whether a stream has a fault: of one of its bodies, or where it goes on as no frame can
+-- whether a stream has a fault: of one of its bodies, or where it continues as no frame can
 abbrev pub is_faulty : List ℕ → Bool
 is_faulty stream = is_some (fault_of_reading (reading_of BODY_LIMIT stream))
 
@@ -97,7 +97,7 @@ abbrev pub opened_on : Option Link → Session → Session
 opened_on (Some link) s = s
 opened_on None s = record { now = opened s.now; waiting = []; before = lives s; life = no_life; references = s.references }
 
--- a life in which a piece more came, after what had come of the next frame
+-- a life in which one more piece came, after what had arrived of the next frame
 abbrev pub with_piece : Life → Now → List ℕ → Life
 with_piece life now piece = record life {
   accepted = up_to_fault life.accepted piece;
@@ -126,7 +126,7 @@ referred_on (Some link) call s = record s {
   references = past_referred s.now.connections call s.references;
 }
 
--- what there is to see now
+-- what an editor can be told now
 abbrev pub snapshot_of : Now → Snapshot
 snapshot_of now = record { debuggee = now.debuggee; numbers = now.numbers }
 
@@ -161,7 +161,7 @@ abbrev pub hung_on : Option Link → Session → Session
 hung_on None s = s
 hung_on (Some link) s = record s { now = hung s.now link }
 
--- a life of which so many bytes more were taken
+-- a life in which these bytes were taken too
 abbrev pub with_taken : Life → List ℕ → Life
 with_taken life bytes = record life { taken = life.taken ++ bytes }
 

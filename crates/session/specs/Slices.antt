@@ -1,6 +1,6 @@
--- A slice: the program that is debugged is given time for so many moves.
+-- A slice: the program that is debugged is given time for a number of moves.
 --
--- A slice goes beat by beat. A beat does its acts, and goes on or ends the slice. What is owed is told first, and that
+-- A slice goes beat by beat. A beat does its acts, and continues or ends the slice. What is owed is told first, and that
 -- ends the slice where it stops the program. Where the program does not run, or its editor has not said all, there is
 -- nothing to do. Then, before each move: the slice ends where more than 65,536 bytes wait; a program that is marked
 -- stops; in a first run the breakpoints at the entry are looked at; the slice ends where all its moves were made; and

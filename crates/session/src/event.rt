@@ -14,11 +14,11 @@ pub enum Event {
     Recv(Bytes),
     /// A request is answered, with the file that it asks for, if it asks for one (`Session::turn`).
     Turn(Option<Bytes>),
-    /// The program is given time for so many moves (`Session::slice`).
+    /// The program is given time for this many moves (`Session::slice`).
     Slice(u32),
     /// The program is to stand still before its next move (`Session::hold`).
     Hold,
-    /// So many of the waiting bytes were sent (`Session::sent`).
+    /// This many of the waiting bytes were sent (`Session::sent`).
     Sent(usize),
     /// The connection ends (`Session::drop_connection`).
     DropConnection,
@@ -54,7 +54,7 @@ pub enum Turned {
     Full,
 }
 
-/// What a program did with the time that it was given: so many moves were made, and then something ended the slice.
+/// What a program did with the time that it was given: it made some moves, and then something ended the slice.
 #[derive(Clone, Copy, Debug, PartialEq, Eq)]
 pub struct Sliced {
     /// How many moves were made: how many instructions retired or, where the program goes back, were undone.
@@ -114,7 +114,7 @@ pub enum EventError {
 /// What closed a connection.
 #[derive(Clone, Copy, Debug, PartialEq, Eq)]
 pub enum LinkFault {
-    /// The stream goes on as no frame can (base protocol, "Header Part").
+    /// The stream continues as no frame can (base protocol, "Header Part").
     Frame(FrameError),
     /// A body is no message (base protocol, "Content Part").
     Message(MessageError),

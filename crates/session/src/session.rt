@@ -23,7 +23,7 @@ use std::marker::Model;
 /// Whatever happens to it is one event: a call of `connect`, `recv`, `turn`, `slice`, `hold`, `sent` or
 /// `drop_connection`. An event that is refused changes nothing, and neither does one that finds no
 /// memory, so that it can be given again; a slice says how far it went. A contract sees what the session is now and the bytes that
-/// wait; what it stands for is a session with all of its past.
+/// wait; it represents a session with all of its past.
 #[derive(Drop)]
 pub struct Session {
     state: State,
@@ -43,7 +43,7 @@ impl Model for Session {
 
 #[tactic(auto, using(crate::proofs::Happening::happening, crate::proofs::Standing::begins))]
 impl Session {
-    /// A session to which nothing happened, with these limits, in which a machine gets so much memory;
+    /// A session to which nothing happened, with these limits and this much memory for a machine;
     /// and with a program, if one is given. The errors apply in this order: `BadMemorySize` where
     /// memory cannot have the size, `BadLimit` where a limit is 0 or above its greatest value,
     /// `Assembly` where the program has no image, `NoMemory` where no memory was left for the program; without one it takes none.
@@ -103,9 +103,9 @@ impl Session {
         self.state.turn(file)
     }
 
-    /// Gives the program time for so many moves. First what it owes is told. It ends with `Stopped` or
+    /// Gives the program time for this many moves. First what it owes is told. It ends with `Stopped` or
     /// `Ended` where the program does; with `Idle` where there is nothing to do; with `Full` where more
-    /// than 65,536 bytes wait to be sent; with `Spent` where so many moves were made; and with `NoMemory`
+    /// than 65,536 bytes wait to be sent; with `Spent` where all these moves were made; and with `NoMemory`
     /// where none was left: to tell what the program did, which is then owed; or for the next move, which stores into a page of zeros,
     /// or undoes such a store, and then that move was not made.
     pub fn slice(&mut self, moves: u32) -> Sliced
@@ -211,7 +211,7 @@ impl Session {
         self.state.wants_file()
     }
 
-    /// What there is to see now: a copy of all that an editor could be told of the program that is debugged.
+    /// A copy of all that an editor could be told now of the program that is debugged.
     ///
     /// `Err`: no memory was left. Where there is no program, it takes none.
     pub fn snapshot(&self) -> Result<Snapshot, AllocError>

@@ -11,7 +11,7 @@ ghost use Rattle.session.specs.Slices as spec;
 ghost use Rattle.session.specs.Slices.{IsFree, logged, printed_events};
 ghost use Rattle.stepping.specs.Goals.{turns_back};
 ghost use Rattle.handlers.specs.Telling.{exit_events, log_event, output_event, stop_event};
-ghost use Rattle.session.specs.Beats.{moves_of, outcome_events, Decides, Moved, Stretches, after_made, concluded, owed_of, queued_with, tick_events};
+ghost use Rattle.session.specs.Private.Beats.{moves_of, outcome_events, Decides, Moved, Stretches, after_made, concluded, owed_of, queued_with, tick_events};
 
 use crate::draft::Draft;
 use crate::event::{SliceEnd, Sliced};
@@ -43,7 +43,7 @@ impl Step {
     }
 }
 
-/// Moves of which there is nothing to tell but of the last.
+/// Moves that leave nothing to tell, except perhaps the last.
 #[derive(Clone, Copy, Debug, PartialEq, Eq)]
 pub struct Moves {
     /// How many were made.
@@ -98,7 +98,7 @@ pub enum Next {
 }
 
 impl State {
-    /// Gives the program time for so many moves.
+    /// Gives the program time for this many moves.
     #[tactic(auto, using(crate::proofs::Slicing::begins_slice, crate::proofs::Slicing::goes_more, crate::proofs::Slicing::has_ended))]
     pub(crate) fn slice(&mut self, moves: u32) -> Sliced
         ensures { Goes self.old (event.Slice moves) (Ok (applied.Slice result)) self.new }
@@ -117,8 +117,7 @@ impl State {
         }
     }
 
-    // Some beats of a slice, which has so many moves left to make: as many as have nothing to tell, or
-    // one other.
+    // Some beats of a slice that has `left` moves to make: as many as have nothing to tell, or one other.
     fn stretch(&mut self, left: u32) -> Step
         ensures few { result.moved ≤ left }
         ensures stretches { (moved : ℕ) → Stretches (moved + left) moved self.old result self.new }
@@ -227,7 +226,7 @@ impl State {
         }
     }
 
-    // The program makes moves, so many at most, until there is something to tell or no memory is left for one.
+    // The program makes moves, at most `left`, until there is something to tell or no memory is left for one.
     #[tactic(auto, using(crate::proofs::Advancing::moves_stretch, crate::proofs::Advancing::moves_then, crate::proofs::Advancing::moves_lack, crate::proofs::Advancing::is_before))]
     fn step_advancing(&mut self, left: u32) -> Step
         requires free { (p : AProgram) × IsFree p (keepings.see self.old) }
@@ -255,7 +254,7 @@ impl State {
         }
     }
 
-    // The moves of which there is nothing to tell, and one that is to be told, if one comes.
+    // The moves that leave nothing to tell, and then one that does, if one comes.
     fn advance(&mut self, left: u32) -> Moves
         requires free { (p : AProgram) × IsFree p (keepings.see self.old) }
         requires some { 0 < left }
@@ -515,7 +514,7 @@ fn most_of(last: u64, machine: &Runner, left: u32) -> u32
     }
 }
 
-// What came of moves, so many at most.
+// The moves that were made, of at most `most`, and what is known of the next one.
 fn moves_of(most: u32, advanced: Advanced) -> Moves
     ensures { result ≡ moves_of most advanced }
 {

@@ -12,7 +12,6 @@ ghost use Rattle.handlers.specs.Sizes.{IsSize};
 ghost use Rattle.handlers.specs.Demands.{run_of};
 ghost use Rattle.std.specs.Option.{option_copied};
 ghost use Rattle.debuggee.specs.Programs.{left, marked, with_program};
-ghost use Rattle.debuggee.specs.declared.run.Mark.TheVariants as a_mark;
 ghost use Rattle.session.specs.Acts as acts;
 ghost use Rattle.session.specs.Acts.{given_of, refers};
 ghost use Rattle.queues.specs.Arrivals.{no_arrivals, others_pending};
@@ -20,7 +19,7 @@ ghost use Rattle.framing.specs.Reading.Tail.{Partial};
 ghost use Rattle.session.specs.Outcomes as spec;
 ghost use Rattle.handlers.specs.Refusals.{response_to};
 ghost use Rattle.session.specs.Outcomes.{wanted_on};
-ghost use Rattle.session.specs.Preparing.{IsPrepared};
+ghost use Rattle.session.specs.Private.Preparing.{IsPrepared};
 ghost use Rattle.handlers.specs.declared.change.Change.TheVariants as a_change;
 ghost use Rattle.session.specs.Sessions.{agreed_on, snapshot_of};
 ghost use Rattle.session.specs.Slices.{is_runnable};
@@ -51,7 +50,7 @@ use variables::{Handles, IssueError, Target};
 /// The most bytes of a piece.
 pub const MOST_PIECE: usize = 65_536;
 
-/// Where so many requests wait, no piece is taken.
+/// Where this many requests wait, no piece is taken.
 pub const MOST_PENDING: usize = 256;
 
 /// Where more bytes wait, no request is answered.
@@ -420,7 +419,7 @@ impl State {
         }
     }
 
-    // What it makes of the program that there is, and what becomes of the references then.
+    // The program is changed, if there is one; and the stop ends for the references where the change ends it.
     fn change_program(&mut self, change: ProgramChange) -> Result<(), AllocError>
         ensures ok { OnOk result
             (self.new ≡ record self.old
@@ -668,7 +667,7 @@ impl State {
         }
     }
 
-    /// What there is to see. It fails where no memory is left.
+    /// A copy of all that an editor could be told now. It fails where no memory is left.
     #[tactic(auto, using(snapshots::proofs::Seeing::is_taken))]
     pub(crate) fn snapshot(&self) -> Result<Snapshot, AllocError>
         ensures ok { IfOk result (λ taken. IsTaken taken (snapshot_of self.now.now)) }

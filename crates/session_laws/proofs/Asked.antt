@@ -1,7 +1,5 @@
 -- Requests as they come: with numbers and bytes that a request may have, and no refusal that has a text of its own.
-use Rattle.session_laws.proofs.Common.{[], all_joined, ap, Arrivals, Ask, asks_in, asks_of, Err, false, inl, inr, List, map, None, Pending, Refusal, Result, Some, subst, sym, ℕ, ◌++◌, ◌∙◌, ◌∷◌, ◌≡◌, ◌≤◌}
-use Rattle.std.proofs.Common.{Ok}
-use Rattle.std.proofs.lemmas.List.{map-id}
+use Rattle.session_laws.proofs.Common.{[], all_joined, ap, Arrivals, Ask, asks_in, asks_of, Err, false, inl, inr, IsRefusalOf, List, map, map-id, None, number_of, Ok, Pending, Refusal, Result, Some, subst, sym, ℕ, ◌++◌, ◌∙◌, ◌∷◌, ◌≡◌, ◌≤◌}
 use Rattle.protocol.proofs.Meanings.{IsSound, IsOfNameOrArguments, incoming_of-sound}
 use Rattle.protocol.specs.Laws.{AsksLinesWithin}
 use Rattle.protocol.specs.Reading.{incoming_of}
@@ -12,9 +10,7 @@ use Rattle.protocol.specs.declared.request.MessageError.{MessageError}
 use Rattle.range_laws.specs.Requests.{GivesBytes}
 use Rattle.range_laws.proofs.Requests.{BodyGives, body_gives}
 use Rattle.queues.specs.declared.pending.Ask.TheVariants.{Request, Bad}
-use Rattle.queues.specs.Arrivals.{number_of}
 use Rattle.session_laws.proofs.Joining.{seen_as, all_joined_as}
-use Rattle.session.proofs.Serving.{IsRefusalOf}
 
 abbrev pub IsRead : Ask → Type 0
 IsRead (Request r) = (r.seq ≤ 2147483647) × (AsksLinesWithin r.command × GivesBytes r.command)

@@ -1,11 +1,7 @@
 -- What is kept where an act does something is kept by acts.
-use Rattle.session_laws.proofs.Common.{[], Accept, accepted_on, Agree, agreed_on, Answering, Become, Call, Close, Debuggee, false, hung_on, if_keeps, Link, List, ltb, ltb-true, None, Open, Option, past_referred, Pending, performed_on, Refer, referred_on, replied_on, Reply, Response, response_to, said_on, Session, Some, Take, Tell, Terms, ℕ, ◌<◌, ◌∷◌, ◌≡◌}
-use Rattle.replies.specs.declared.message.Message.TheVariants.{Event as IsEvent}
+use Rattle.session_laws.proofs.Common.{[], Accept, accepted_on, accepting, Agree, agreed_on, Answering, Become, Call, Close, Debuggee, Event as IsEvent, false, HangUp, hung_on, if_keeps, KeptByActs, Link, List, ltb, ltb-true, None, Open, opened_on, Option, past_referred, Pending, performed_on, Refer, referred_on, refers, replied_on, Reply, Response, response_to, said_on, saying, Session, Some, Take, Tell, Terms, ℕ, ◌<◌, ◌∷◌, ◌≡◌}
 use Rattle.replies.specs.declared.response.Outcome.{Outcome}
 use Rattle.replies.specs.declared.event.Event.{Event}
-use Rattle.session.specs.Acts.{HangUp, refers}
-use Rattle.session.specs.Sessions.{accepting, opened_on, saying}
-use Rattle.session.proofs.Reaching.{KeptByActs}
 
 -- a session once an answer's change is made and its references are issued, before it is queued
 abbrev pub with_change : Answering → Session → Session

@@ -1,14 +1,9 @@
 -- What a call leads to.
-use Rattle.session_laws.proofs.Common.{[], Err, Happened, histories, List, None, Option, refl, Result, Session, Some, start, sym, ℕ, ◌∷◌}
-use Rattle.std.proofs.Common.{Ok}
-use Rattle.session.proofs.Reaching.{led_append}
-use Rattle.session.specs.Effects.{EndsWell, Ends, moves_asked, ran_out}
+use Rattle.session_laws.proofs.Common.{[], AlreadyConnected, Busy, Closing, Cut, Ends, EndsWell, Err, Happened, histories, led_append, led_to, List, moves_asked, NoMemory, None, NotConnected, Ok, Option, PieceTooLong, ran_out, refl, Result, SentTooMuch, Session, Some, Spent, start, sym, Whole, ℕ, ◌∷◌}
 use Rattle.session.specs.Kept.{Kept, Stands}
-use Rattle.session.specs.Reached.{Whole, Cut, led_to}
 use Rattle.session.specs.declared.event.Applied.{Applied}
 use Rattle.session.specs.declared.event.Event.{Event}
 use Rattle.session.specs.declared.event.EventError.{EventError}
-use Rattle.session.specs.declared.event.EventError.TheVariants.{NotConnected, AlreadyConnected, Busy, SentTooMuch, PieceTooLong, Closing, NoMemory, Spent}
 use Rattle.session_laws.specs.Calls.{AddsDone, CallsLead, Leads, LeadsOn}
 
 module _ (s : Session) (e : Event) (new : Kept) where

@@ -1,44 +1,59 @@
 -- What most proofs here speak of, under one name.
-pub use Rattle.assembler.specs.Assembled.{assembled}
-pub use Rattle.debuggee.specs.Programs.{Debuggee, Program, entered, first_run, is_ended, is_running, just_loaded, left, marked, marked_by, moved, next_tick, on_program, restarted, resumed, stays, stopped, told, why_marked, with_hart, written}
+pub use Rattle.assembler.specs.Assembled.{assembled, IsNarrowRow}
+pub use Rattle.breakpoints.specs.Stops.{Wanted}
+pub use Rattle.debuggee.specs.Programs.{Debuggee, ended, entered, first_mark, first_run, is_ended, is_running, just_loaded, left, marked, marked_by, moved, next_tick, on_program, owing, owing_by, Program, restarted, resumed, run_after, run_left, stays, stopped, told, why_marked, with_functions, with_hart, with_instructions, with_program, with_source, written}
 pub use Rattle.debuggee.specs.declared.run.Mark.{Mark}
 pub use Rattle.debuggee.specs.declared.run.Run.{Run}
 pub use Rattle.debuggee.specs.declared.run.Why.{Why}
-pub use Rattle.handlers.specs.Demands.{goes_on, has_none, run_of}
-pub use Rattle.handlers.specs.Given.{Answering}
-pub use Rattle.handlers.specs.Refusals.{response_to}
-pub use Rattle.handlers.specs.Telling.{exit_events, stop_event}
+pub use Rattle.framing.specs.Streams.{fault_of, first_of, reading_after}
+pub use Rattle.handlers.specs.Breaks.{with_list}
+pub use Rattle.handlers.specs.Demands.{goes_on, has_ended, has_none, is_no_thread, run_of}
+pub use Rattle.handlers.specs.Given.{Answering, Given}
+pub use Rattle.handlers.specs.Looking.{demand, looks_on, seen_in, shows_by}
+pub use Rattle.handlers.specs.Refusals.{answer_by, first_refusal, is_cancelled, names_none, refusals, response_to, unmet, where_so}
+pub use Rattle.handlers.specs.Requests.{demand_of, is_taken_in, success_of}
+pub use Rattle.handlers.specs.Telling.{exit_events, log_event, reason_of, stop_event, text_of}
 pub use Rattle.handlers.specs.declared.terms.Terms.{Terms}
+pub use Rattle.protocol.specs.Commands.{name_of}
 pub use Rattle.protocol.specs.declared.command.Command.{Command}
+pub use Rattle.protocol.specs.declared.command.Command.TheVariants.{Evaluate, Pause, Restart, Scopes, SetBreakpoints, SetFunctionBreakpoints, SetInstructionBreakpoints, SetVariable, Variables, WriteMemory}
 pub use Rattle.protocol.specs.declared.refusal.Refusal.{Refusal}
-pub use Rattle.queues.specs.Arrivals.{Arrivals, all_joined, asks_in, asks_of, joined, message_fault_of, name_asked}
+pub use Rattle.queues.specs.Arrivals.{all_joined, Arrivals, asks_in, asks_of, cancelled_by, cancels, fault_in, is_above, is_named, is_repeat, joined, message_fault_of, name_asked, number_of, pending_with}
 pub use Rattle.queues.specs.declared.pending.Ask.{Ask}
 pub use Rattle.queues.specs.declared.pending.Pending.{Pending}
-pub use Rattle.replies.specs.declared.message.Message.TheVariants.{Response}
+pub use Rattle.replies.specs.declared.message.Message.TheVariants.{Event, Response}
+pub use Rattle.replies.specs.declared.response.Outcome.TheVariants.{Done, Refused}
 pub use Rattle.replies.specs.declared.response.ResponseBody.{ResponseBody}
+pub use Rattle.session.proofs.Breaking.{answer_on, ids_are_words, is_plain, IsPlain}
 pub use Rattle.session.proofs.ByMove.{by_move}
-pub use Rattle.session.proofs.BySuccess.{BySuccess, Has, SetsList, agreed_body, agrees, by_success, step_body, steps}
-pub use Rattle.session.proofs.Reaching.{each_life, if_keeps, performed_append, reached_by_acts}
-pub use Rattle.session.proofs.Serving.{of_answer}
-pub use Rattle.session.specs.Acts.{Accept, Act, Agree, Become, Close, Now, Open, Refer, Reply, Seen, Take, Tell, fault_of_reading, fault_or, given_of, read_on}
-pub use Rattle.session.specs.Beats.{concluded}
-pub use Rattle.session.specs.Effects.{Slicing, beats, enough, next_by, performed, sliced}
-pub use Rattle.session.specs.Kinds.{is_success}
-pub use Rattle.session.specs.Outcomes.{answer_to, answering, answers_next, closing, done, next_turn, outcome_at, turn_by, turn_of}
-pub use Rattle.session.specs.Reached.{Happened, Reached}
-pub use Rattle.session.specs.References.{Reference, past_referred, referred, without_connection}
-pub use Rattle.session.specs.Sessions.{Beginning, Effect, Life, Said, Session, accepted_on, agreed_on, histories, hung_on, is_faulty, performed_on, referred_on, replied_on, said_next, said_on, start, up_to_fault}
-pub use Rattle.session.specs.Slices.{Beat, beat, beat_by, beat_of, becomes, concludes, ending_of, ends, exits, goes, goes_unless, halts, is_at_limit, is_runnable_by, logged, makes_move, moves_by, output_events, stops, telling, tells}
+pub use Rattle.session.proofs.BySuccess.{agreed_body, agrees, by_success, BySuccess, Has, has_program, IsAboutProgram, Looks, not_absent, SetsList, step_body, steps}
+pub use Rattle.session.proofs.Reaching.{each_life, if_keeps, KeptByActs, led_append, performed_append, reached, reached_by_acts, whole_events}
+pub use Rattle.session.proofs.Serving.{IsRefusalOf, Meets, not_taken, of_answer}
+pub use Rattle.session.specs.Acts.{Accept, Act, Agree, Become, Close, fault_of_reading, fault_or, given_of, HangUp, Now, Open, read_on, Refer, refers, Reply, Seen, tail_kept, Take, Tell}
+pub use Rattle.session.specs.Effects.{after_beat, beats, beats_on, Ends, EndsWell, enough, from_here, moves_asked, next_beat, next_by, performed, ran_out, sliced, Slicing, with_beat}
+pub use Rattle.session.specs.Kinds.{initializes, is_resume, is_success}
+pub use Rattle.session.specs.Outcomes.{answer_to, answering, answers_next, closing, done, holding, leaving, next_turn, Outcome, outcome, outcome_at, refused, turn_by, turn_of}
+pub use Rattle.session.specs.Phases.{is_active, is_configuring}
+pub use Rattle.session.specs.Private.Beats.{concluded}
+pub use Rattle.session.specs.Reached.{Cut, Happened, leaves, led_to, OfEvent, Reached, Whole}
+pub use Rattle.session.specs.References.{issued_all, issued_one, past_of, past_referred, Reference, References, referred, unless_issued, without_connection}
+pub use Rattle.session.specs.Sessions.{accepted_on, accepting, agreed_on, Answer, Beginning, bytes_of, Effect, frame_said, histories, hung_on, is_faulty, Life, no_life, opened_on, performed_on, referred_on, replied_on, Said, said_next, said_on, saying, Session, start, up_to_fault, with_said, with_taken}
+pub use Rattle.session.specs.Slices.{beat, Beat, beat_by, beat_of, becomes, concludes, ending_of, ends, exits, goes, goes_unless, halts, is_at_limit, is_runnable_by, logged, makes_move, moves_by, output_events, runs, stops, telling, tells}
 pub use Rattle.session.specs.declared.event.Event.TheVariants.{Connect, DropConnection, Hold, Recv, Sent, Slice, Turn}
+pub use Rattle.session.specs.declared.event.EventError.TheVariants.{AlreadyConnected, Busy, Closing, NoMemory, NotConnected, PieceTooLong, SentTooMuch, Spent}
 pub use Rattle.session.specs.declared.event.SliceEnd.{SliceEnd}
 pub use Rattle.session.specs.declared.link.Link.{Link}
 pub use Rattle.session.specs.declared.state.TheConstants.{FULL, LAST_CONNECTION, MOST_PENDING, MOST_PIECE}
-pub use Rattle.session_laws.specs.Laws.{SaysItsRun}
-pub use Rattle.std.proofs.Common.{Bool, Err, List, MatchBool, None, Option, Result, Some, [], ap, append-nil, append_assoc, arith, cond, eqb, false, inl, inr, leb, length, ltb, ltb-true, map, refl, subst, suc, sym, true, zero, ℕ, ℤ, ◌++◌, ◌+◌, ◌<◌, ◌∙◌, ◌∷◌, ◌≡◌, ◌≤◌, ◌⊎◌}
+pub use Rattle.session_laws.specs.Laws.{answered_as, answered_in, AnswersAreProper, AnswersInOrder, AreNumberedFrom, asked_as, asked_in, CutsDoNotMatter, Disconnects, EditorLeaves, EveryByteIsTakenOrWaits, FaultIsOfTheBytes, initializes_by, InitializesOnce, IsAtRest, IsMarked, IsStop, IsTaken, LivesAreNumbered, MarkedRetiresNone, NumbersRise, PauseMarks, Pauses, pending_as, RefusedChangesNothing, RequestsAreRead, RetiresNone, RetiresNoneIn, RunsAreTold, RunsAs, SaysItsRun, SlicesEnd, SlicesJoin, times_initialized}
+pub use Rattle.session_laws.specs.Turns.{Answered, answered_by, answered_on, answered_with, first_answered, next_answered}
+pub use Rattle.std.proofs.Common.{[], ap, append-nil, append_assoc, arith, Bool, cond, drop, eqb, Err, false, get_or, inl, inr, is_some, leb, length, List, ltb, ltb-true, map, MatchBool, MatchResult, negsuc, None, Ok, Option, pos, refl, Result, Some, subst, suc, sym, take, take-append-drop, true, zero, ℕ, ℤ, ◌*◌, ◌++◌, ◌+◌, ◌-◌, ◌<◌, ◌∙◌, ◌∷◌, ◌≡◌, ◌≤◌, ◌⊎◌}
 pub use Rattle.std.proofs.lemmas.Bool.Decides.{nat_tests}
-pub use Rattle.std.proofs.lemmas.List.{map-append}
-pub use Rattle.std.proofs.lemmas.List.Elements.{All-nil, All-push, All-weaker}
-pub use Rattle.std.specs.Prelude.{All, IfOk, IfSome, IsTrue, bytes_eq, codes, not, ⊤, ◌&&◌, ◌^◌, ◌||◌}
-pub use Rattle.stepping.specs.declared.tick.Outcome.TheVariants.{Went}
+pub use Rattle.std.proofs.lemmas.List.{length-append, length-map, map-append, map-id, take_at}
+pub use Rattle.std.proofs.lemmas.List.Elements.{All-cons, All-head, All-nil, All-push, All-tail, All-take, All-weaker}
+pub use Rattle.std.specs.Prelude.{All, bytes_eq, codes, flat_map, IfOk, IfSome, if◌then◌else◌, IsTrue, MatchOption, not, slice_get, ⊤, ◌&&◌, ◌==◌, ◌^◌, ◌||◌}
+pub use Rattle.stepping.specs.Ticks.{back_outcome, Debugged, entry_checked, entry_tick, gone_back, hit_at_pc, IsTick, looked_at, Moves, outcome_of, Settles, undone, undone_by}
+pub use Rattle.stepping.specs.declared.tick.Outcome.TheVariants.{Ended, Stopped, Went}
 pub use Rattle.stepping.specs.declared.tick.Tick.{Tick}
-pub use Rattle.variables.specs.Laws.{Call}
+pub use Rattle.variables.specs.Laws.{Call, down_from}
+pub use Rattle.variables.specs.Numbers.{at_next_stop, found_in, has_room, InOrder, next_of, Numbers, StandsFor, with_targets}
+pub use Rattle.variables.specs.declared.target.Target.{Target}

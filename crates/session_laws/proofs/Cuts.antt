@@ -1,20 +1,12 @@
 -- Wherever what an editor sends is cut, the session takes the same of it.
-use Rattle.session_laws.proofs.Common.{[], Accept, accepted_on, All, All-nil, All-push, all_joined, ap, append_assoc, Arrivals, Ask, asks_of, Beginning, Bool, cond, done, each_life, Effect, Err, false, fault_of_reading, fault_or, Happened, histories, inl, inr, is_faulty, joined, leb, length, Life, Link, List, ltb, message_fault_of, MOST_PENDING, MOST_PIECE, None, Option, outcome_at, performed, Reached, reached_by_acts, read_on, Recv, refl, Session, Some, subst, sym, true, up_to_fault, ℕ, ◌++◌, ◌∙◌, ◌∷◌, ◌≡◌, ◌⊎◌}
-use Rattle.std.proofs.Common.{is_some, Ok}
+use Rattle.session_laws.proofs.Common.{[], Accept, accepted_on, accepting, All, All-nil, All-push, all_joined, Answer, ap, append_assoc, Arrivals, Ask, asks_of, Beginning, Bool, Busy, Closing, cond, CutsDoNotMatter, done, each_life, Effect, Err, false, fault_of, fault_of_reading, fault_or, FaultIsOfTheBytes, Happened, histories, inl, inr, is_faulty, is_some, IsTaken, joined, leb, length, Life, Link, List, ltb, message_fault_of, MOST_PENDING, MOST_PIECE, None, Ok, Option, outcome, Outcome, outcome_at, performed, PieceTooLong, Reached, reached_by_acts, read_on, reading_after, Recv, refl, refused, RequestsAreRead, Session, Some, subst, sym, tail_kept, true, up_to_fault, ℕ, ◌++◌, ◌∙◌, ◌∷◌, ◌≡◌, ◌⊎◌}
 use Rattle.framing.specs.Reading.{Reading, Tail, reading_of, with_bodies}
-use Rattle.framing.specs.Streams.{reading_after, fault_of}
 use Rattle.framing.proofs.Cutting.{reading_of-append}
 use Rattle.framing.proofs.Pasts.{nothing_stands}
 use Rattle.session.specs.declared.TheConstants.{BODY_LIMIT}
 use Rattle.session.specs.declared.event.Applied.TheVariants.{Recv as Received}
-use Rattle.session.specs.declared.event.EventError.TheVariants.{Busy, PieceTooLong, Closing}
 use Rattle.session.specs.declared.event.LinkFault.{LinkFault}
-use Rattle.session.specs.Acts.{tail_kept}
-use Rattle.session_laws.specs.Laws.{RequestsAreRead, FaultIsOfTheBytes, IsTaken, CutsDoNotMatter}
-use Rattle.session.specs.Outcomes.{Outcome, refused, outcome}
-use Rattle.session.specs.Sessions.{Answer}
 use Rattle.session_laws.proofs.ByForms.{on, KeptByOthers, KeptByAnswers, by_forms}
-use Rattle.session.specs.Sessions.{accepting}
 use Rattle.session_laws.proofs.Reading.{asks_of-append, message_fault_of-append, fault_stays, asks_up_to, fault_up_to, up_to_fault_all, up_to_fault-append, ends_at_fault, reading_after-append, no_message_fault, none_if}
 
 -- ---- the requests of a connection are those of its bytes
@@ -22,7 +14,7 @@ use Rattle.session_laws.proofs.Reading.{asks_of-append, message_fault_of-append,
 abbrev IsRead : Life → Type 0
 IsRead life = life.heard ≡ asks_of (reading_of BODY_LIMIT life.accepted).bodies
 
--- a connection that takes more has no fault, and what has come of the next frame is kept
+-- a connection that takes more has no fault, and what has arrived of the next frame is kept
 abbrev GoesOn : Option Link → Tail → List ℕ → Type 0
 GoesOn None tail accepted = Unit {0}
 GoesOn (Some l) tail accepted =
@@ -164,7 +156,6 @@ taken_on s piece (Some l) e h =
 taken_is : (s : Session) (piece : List ℕ) → IsTaken s piece → Taken s piece
 taken_is s piece h = taken_on s piece s.now.link refl h
 
--- what it leaves
 leaves : (s : Session) (piece : List ℕ) (w : Taken s piece) (l : Link) → s.now.link ≡ Some l → l.is_closing ≡ false
     → Effect s (Recv piece) ≡ accepting l piece s
 leaves s piece w l e n =

@@ -1,6 +1,5 @@
 -- The first of a list, where there is one.
-use Rattle.session_laws.proofs.Common.{[], ap, List, None, refl, Some, ℕ, ◌∷◌, ◌≡◌}
-use Rattle.framing.specs.Streams.{first_of}
+use Rattle.session_laws.proofs.Common.{[], ap, first_of, List, None, refl, Some, ℕ, ◌∷◌, ◌≡◌}
 
 pub first_some : (waiting : List (List ℕ)) (b : List ℕ) → Some b ≡ first_of waiting → (bs : List (List ℕ)) × (waiting ≡ b ∷ bs)
 first_some [] b e = cc

@@ -1,16 +1,11 @@
--- What is kept of references stands for all that were ever issued, each on its connection.
-use Rattle.session_laws.proofs.Common.{[], All, All-nil, All-weaker, ap, arith, Beginning, Call, Happened, Link, List, map, None, Option, past_referred, Reached, reached_by_acts, Reference, referred, refl, Session, Some, subst, sym, without_connection, ℕ, ⊤, ◌+◌, ◌∙◌, ◌∷◌, ◌≡◌, ◌≤◌}
-use Rattle.std.proofs.lemmas.List.{length-map}
-use Rattle.std.proofs.lemmas.List.Elements.{All-cons}
+-- What is kept of references represents all that were ever issued, each on its connection.
+use Rattle.session_laws.proofs.Common.{[], All, All-cons, All-nil, All-weaker, ap, arith, Beginning, Call, down_from, Happened, issued_all, issued_one, length-map, Link, List, map, None, Numbers, Option, past_of, past_referred, Reached, reached_by_acts, Reference, References, referred, refl, Session, Some, StandsFor, subst, sym, Target, unless_issued, without_connection, ℕ, ⊤, ◌+◌, ◌∙◌, ◌∷◌, ◌≡◌, ◌≤◌}
 use Rattle.session_laws.specs.Lifetimes.{ReferencesRise, ReferencesStand}
-use Rattle.session.specs.References.{References, ended, issued_all, issued_one, past_of, unless_issued}
+use Rattle.session.specs.References.{ended}
 use Rattle.session_laws.proofs.ByForms.{KeptByAnswers, KeptByOthers, by_forms}
-use Rattle.variables.specs.Laws.{down_from}
 use Rattle.variables.specs.Laws.Call.{EndStop, Issue}
-use Rattle.variables.specs.Numbers.{Numbers, StandsFor}
 use Rattle.variables.specs.References as variables
 use Rattle.variables.specs.References.{Issued, Past, next_number, number_of}
-use Rattle.variables.specs.declared.target.Target.{Target}
 use Rattle.variables.proofs.Calls.{Falls, falls}
 use Rattle.variables.proofs.Standing.{all_stand, ended_stands, nothing_stands}
 

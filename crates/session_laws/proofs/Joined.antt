@@ -1,16 +1,9 @@
 -- Two slices, one after the other, leave what one of all their moves leaves.
-use Rattle.session_laws.proofs.Common.{[], Act, ap, arith, Beat, beat, beat_by, beat_of, beats, becomes, Bool, by_move, concluded, concludes, cond, Debuggee, ending_of, ends, enough, exit_events, exits, false, FULL, goes, goes_unless, halts, histories, if_keeps, inl, inr, is_at_limit, is_runnable_by, is_running, length, List, logged, ltb, makes_move, map, Mark, moved, moves_by, nat_tests, next_by, next_tick, None, not, Now, Option, output_events, performed, performed_append, performed_on, Program, refl, Seen, Session, sliced, SliceEnd, Slicing, Some, stop_event, stopped, stops, subst, suc, sym, Tell, telling, tells, Tick, told, true, Went, Why, why_marked, zero, ℕ, ℤ, ◌&&◌, ◌+◌, ◌<◌, ◌∙◌, ◌∷◌, ◌≡◌, ◌≤◌, ◌⊎◌}
-use Rattle.debuggee.specs.Programs.{ended}
+use Rattle.session_laws.proofs.Common.{[], Act, after_beat, ap, arith, beat, Beat, beat_by, beat_of, beats, beats_on, becomes, Bool, by_move, concluded, concludes, cond, Debuggee, ended, Ended, ending_of, ends, enough, Event as IsEvent, exit_events, exits, false, from_here, FULL, goes, goes_unless, halts, histories, if_keeps, inl, inr, is_active, is_at_limit, is_configuring, is_runnable_by, is_running, length, List, logged, ltb, makes_move, map, Mark, moved, moves_by, nat_tests, next_beat, next_by, next_tick, None, not, Now, Option, output_events, performed, performed_append, performed_on, Program, refl, runs, Seen, Session, sliced, SliceEnd, SlicesEnd, SlicesJoin, Slicing, Some, stop_event, stopped, Stopped, stops, subst, suc, sym, Tell, telling, tells, Tick, told, true, Went, Why, why_marked, with_beat, zero, ℕ, ℤ, ◌&&◌, ◌+◌, ◌<◌, ◌∙◌, ◌∷◌, ◌≡◌, ◌≤◌, ◌⊎◌}
 use Rattle.debuggee.specs.declared.run.Why.TheVariants as why
 use Rattle.replies.specs.declared.event.Event.{Event as Told}
-use Rattle.replies.specs.declared.message.Message.TheVariants.{Event as IsEvent}
 use Rattle.session.specs.declared.event.SliceEnd.TheVariants as ending
-use Rattle.session.specs.Effects.{after_beat, beats_on, from_here, next_beat, with_beat}
-use Rattle.session_laws.specs.Laws.{SlicesEnd, SlicesJoin}
-use Rattle.session.specs.Phases.{is_active, is_configuring}
-use Rattle.session.specs.Slices.{runs}
 use Rattle.stepping.specs.declared.tick.Outcome.{Outcome}
-use Rattle.stepping.specs.declared.tick.Outcome.TheVariants.{Stopped, Ended}
 use Rattle.stepping.specs.declared.tick.Reason.TheVariants as met
 use Rattle.session_laws.proofs.Turning.{said_debuggee}
 use Rattle.session.proofs.Enough.{is_sliced, each_ends, stays_ended, Follows}
@@ -371,7 +364,7 @@ fork a b d None least = by (ltb d.moved a) refl (ltb d.moved (a + b)) refl where
       (arith, less, more))
   by false e true h = fork_alike a b d least e h (beat_alike (histories.see d.state))
 
--- the first slice has ended for want of moves, and the whole went on from there
+-- the first slice has ended for want of moves, and the whole continued from there
 record Split (a b : ℕ) (s : Session) (d : Slicing Session) : Type 0 where
   ended : d.ending ≡ Some ending.Spent
   full : d.moved ≡ a
@@ -471,11 +464,7 @@ joins_at_once a b s e whole is =
 
 is_spent : (e : SliceEnd) → (e ≡ ending.Spent) ⊎ (e ≡ ending.Spent → ⊥)
 is_spent ending.Spent = inl refl
-is_spent ending.Full = inr (λ h. cc)
-is_spent ending.Idle = inr (λ h. cc)
-is_spent ending.Stopped = inr (λ h. cc)
-is_spent ending.Ended = inr (λ h. cc)
-is_spent ending.NoMemory = inr (λ h. cc)
+is_spent _ = inr (λ h. cc)
 
 joins : (a b : ℕ) (s : Session) → Join a b s
 unfolding going shifted

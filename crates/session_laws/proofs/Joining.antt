@@ -1,8 +1,6 @@
 -- Requests that join those that wait: none is lost, and they stand in their order.
-use Rattle.session_laws.proofs.Common.{[], all_joined, ap, append-nil, append_assoc, Arrivals, Ask, Bool, false, joined, List, map, map-append, None, Option, Pending, refl, Some, sym, true, ℤ, ◌++◌, ◌∙◌, ◌∷◌, ◌≡◌}
-use Rattle.std.specs.Prelude.{if◌then◌else◌}
+use Rattle.session_laws.proofs.Common.{[], all_joined, ap, append-nil, append_assoc, Arrivals, Ask, Bool, cancelled_by, cancels, false, if◌then◌else◌, is_above, is_named, joined, List, map, map-append, None, number_of, Option, Pending, pending_with, refl, Some, sym, true, ℤ, ◌++◌, ◌∙◌, ◌∷◌, ◌≡◌}
 use Rattle.queues.specs.declared.pending.Fate.TheVariants.{Waits, Repeated, Cancelled}
-use Rattle.queues.specs.Arrivals.{is_above, number_of, is_named, cancels, cancelled_by, pending_with}
 
 -- what is seen of the requests that wait, by what is seen of one
 abbrev pub seen_as : {X : Type 0} → (Ask → X) → List Pending → List X

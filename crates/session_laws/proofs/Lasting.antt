@@ -1,16 +1,12 @@
 -- A reference is answered in its stop and on its connection, and is stale after that.
-use Rattle.session_laws.proofs.Common.{[], All, Answering, ap, arith, Beginning, Bool, bytes_eq, codes, Command, cond, eqb, Err, false, given_of, goes_on, Happened, has_none, if_keeps, inl, inr, Link, List, map, MatchBool, nat_tests, None, not, Now, Option, Program, Reached, Reference, refl, Refusal, ResponseBody, Result, Run, run_of, Session, Some, subst, suc, sym, Terms, true, without_connection, zero, ℕ, ℤ, ⊤, ◌&&◌, ◌++◌, ◌<◌, ◌∙◌, ◌∷◌, ◌≡◌, ◌≤◌}
-use Rattle.std.proofs.Common.{pos, negsuc, Ok}
-use Rattle.std.specs.Prelude.{◌==◌, slice_get}
+use Rattle.session_laws.proofs.Common.{[], All, All-head, All-tail, answer_by, Answering, ap, arith, Beginning, Bool, bytes_eq, codes, Command, cond, Debugged, demand, demand_of, Done, eqb, Err, Evaluate, false, first_refusal, found_in, Given, given_of, goes_on, Happened, has_ended, has_none, has_room, if_keeps, inl, InOrder, inr, is_cancelled, is_no_thread, is_repeat, is_taken_in, Link, List, looks_on, map, MatchBool, names_none, nat_tests, negsuc, None, not, Now, Ok, Option, pos, Program, Reached, Reference, refl, Refusal, refusals, Refused, ResponseBody, Result, Run, run_of, Scopes, Session, SetVariable, shows_by, slice_get, Some, subst, suc, success_of, sym, Target, Terms, true, unmet, Variables, where_so, without_connection, zero, ℕ, ℤ, ⊤, ◌&&◌, ◌++◌, ◌<◌, ◌==◌, ◌∙◌, ◌∷◌, ◌≡◌, ◌≤◌}
 use Rattle.std.specs.Result.{result_err}
-use Rattle.std.proofs.lemmas.List.Elements.{All-head, All-tail}
 use Rattle.answers.specs.Evaluate.{if_valued, unless_refused, valued}
 use Rattle.answers.specs.Expressions.{expression_of}
 use Rattle.answers.specs.Scopes.{body_by as scopes_by, given_by}
 use Rattle.answers.specs.SetVariable.{has_name, set_in, setting_of}
 use Rattle.answers.specs.Targets.{frame_refusal, if_frame, refused, target_of}
 use Rattle.answers.specs.Variables.{body_by as variables_by, variables_in}
-use Rattle.protocol.specs.declared.command.Command.TheVariants.{Scopes, Variables, SetVariable, Evaluate}
 use Rattle.protocol.specs.declared.evaluate.EvaluateArguments.{EvaluateArguments}
 use Rattle.protocol.specs.declared.scopes.ScopesArguments.{ScopesArguments}
 use Rattle.protocol.specs.declared.set_variable.SetVariableArguments.{SetVariableArguments}
@@ -18,35 +14,24 @@ use Rattle.protocol.specs.declared.variables.VariablesArguments.{VariablesArgume
 use Rattle.protocol.specs.declared.refusal.Refusal.TheVariants as refusal
 use Rattle.protocol.specs.declared.request.Request.{Request as ARequest}
 use Rattle.replies.specs.declared.response.Outcome.{Outcome}
-use Rattle.replies.specs.declared.response.Outcome.TheVariants.{Done, Refused}
 use Rattle.queues.specs.declared.pending.Ask.TheVariants.{Request}
 use Rattle.queues.specs.declared.pending.Fate.{Fate}
 use Rattle.handlers.specs.declared.phase.Phase.{Phase}
-use Rattle.handlers.specs.Given.{Given}
 use Rattle.expressions.specs.Trees.{Tree}
 use Rattle.expressions.specs.Values.{value_of}
 use Rattle.expressions.specs.declared.error.ExprFault.{ExprFault}
 use Rattle.rv32i.specs.declared.hart.Hart.{Hart}
 use Rattle.handlers.specs.declared.demand.Demand.{Demand}
-use Rattle.queues.specs.Arrivals.{is_repeat}
-use Rattle.handlers.specs.Looking.{demand}
-use Rattle.handlers.specs.Demands.{has_ended, is_no_thread}
-use Rattle.handlers.specs.Looking.{looks_on, shows_by}
 use Rattle.handlers.specs.SetVariable.{sets_by, sets_on}
-use Rattle.handlers.specs.Refusals.{answer_by, first_refusal, is_cancelled, names_none, refusals, unmet, where_so}
-use Rattle.handlers.specs.Requests.{demand_of, is_taken_in, success_of}
-use Rattle.stepping.specs.Ticks.{Debugged}
 use Rattle.rv32i.specs.Names.{number_named}
 use Rattle.variables.specs.Registers.{name_answer, unless_zero}
 use Rattle.variables.specs.Stack.{stack_words}
 use Rattle.variables.specs.Values.{value_of as value_in}
 use Rattle.session_laws.specs.Lifetimes.{IsStale, IsUnknown, ReferencesAreGood, ReferencesLast, WasIssued, is_of_other_kind, outcome_next, reference_in}
 use Rattle.session_laws.proofs.Issuing.{IsMade, Refers, always_refers}
-use Rattle.variables.specs.Numbers.{InOrder, found_in, has_room}
 use Rattle.variables.specs.References.{found_among, next_after}
 use Rattle.variables.specs.declared.error.FindError.{FindError}
 use Rattle.variables.specs.declared.error.FindError.TheVariants.{Unknown, Stale}
-use Rattle.variables.specs.declared.target.Target.{Target}
 use Rattle.variables.specs.declared.target.Target.TheVariants as target
 
 -- ---- what is found of all that were issued
@@ -282,7 +267,7 @@ set_speaks now terms machine arguments (Ok target.Stack) =
 some_is : (a b : ℤ) → Some a ≡ Some b → a ≡ b
 some_is a b e = cc
 
--- what comes of one, by the program
+-- what one leads to, by the program
 success_on : Option Program → Given → Terms → Command → Outcome
 success_on program given terms (SetVariable arguments) = (sets_on program given terms arguments).outcome
 success_on program given terms other = (looks_on program given terms other).outcome
@@ -368,7 +353,6 @@ has_program None phase r fate stops e =
 
 -- ---- the law
 
--- a refusal is one refusal
 same_refusal : (x y : Refusal) → Refused x None ≡ Refused y None → x ≡ y
 same_refusal x y e = cc
 

@@ -1,17 +1,11 @@
 -- `initialize` succeeds once at most on a connection.
-use Rattle.session_laws.proofs.Common.{[], agreed_body, All, All-nil, All-push, answer_to, Answering, answering, arith, Beginning, Bool, by_success, BySuccess, closing, Command, each_life, false, given_of, Happened, histories, hung_on, if_keeps, Life, Link, List, ltb, map, None, Now, of_answer, Option, Pending, performed, performed_append, performed_on, Program, Reached, refl, replied_on, Response, response_to, ResponseBody, Said, said_next, said_on, Session, SetsList, Some, step_body, subst, sym, Tell, Terms, true, ℕ, ◌++◌, ◌+◌, ◌∷◌, ◌≡◌, ◌≤◌}
+use Rattle.session_laws.proofs.Common.{[], agreed_body, All, All-nil, All-push, answer_on, answer_to, answering, Answering, arith, Beginning, Bool, by_success, BySuccess, closing, Command, Done, each_life, Event as IsEvent, false, given_of, Happened, histories, hung_on, if_keeps, initializes, initializes_by, InitializesOnce, is_plain, is_taken_in, IsPlain, Life, Link, List, ltb, map, None, Now, of_answer, Option, Pending, performed, performed_append, performed_on, Program, Reached, refl, replied_on, Response, response_to, ResponseBody, Said, said_next, said_on, Session, SetsList, Some, step_body, subst, sym, Tell, Terms, times_initialized, true, ℕ, ◌++◌, ◌+◌, ◌∷◌, ◌≡◌, ◌≤◌}
 use Rattle.std.specs.Prelude.{Ok}
 use Rattle.replies.specs.declared.event.Event.{Event}
-use Rattle.replies.specs.declared.message.Message.TheVariants.{Event as IsEvent}
-use Rattle.replies.specs.declared.response.Outcome.TheVariants.{Done}
 use Rattle.replies.specs.declared.response.Outcome.{Outcome}
 use Rattle.handlers.specs.declared.phase.Phase.{Phase}
 use Rattle.handlers.specs.declared.phase.Phase.TheVariants.{Fresh, Initialized, Configuring, Active, Left}
-use Rattle.session.specs.Kinds.{initializes}
-use Rattle.session_laws.specs.Laws.{initializes_by, times_initialized, InitializesOnce}
 use Rattle.handlers.specs.Phases.{is_fresh_in}
-use Rattle.handlers.specs.Requests.{is_taken_in}
-use Rattle.session.proofs.Breaking.{IsPlain, answer_on, is_plain}
 use Rattle.session_laws.proofs.ByForms.{on, on_with, with_change}
 use Rattle.session_laws.proofs.Turning.{KeptByEvents, reached_by_events}
 use Rattle.handlers.specs.Successes.{agreeing}
@@ -19,17 +13,11 @@ use Rattle.handlers.specs.Successes.{agreeing}
 -- how often it can have succeeded by then
 abbrev Suits : Phase → ℕ → Type 0
 Suits Fresh n = n ≡ 0
-Suits Initialized n = n ≤ 1
-Suits Configuring n = n ≤ 1
-Suits Active n = n ≤ 1
-Suits Left n = n ≤ 1
+Suits _ n = n ≤ 1
 
 fewer : (phase : Phase) (n k : ℕ) → Suits phase (n + k) → Suits phase (n + 0)
 fewer Fresh n k h = omega (arith, h)
-fewer Initialized n k h = omega (arith, h)
-fewer Configuring n k h = omega (arith, h)
-fewer Active n k h = omega (arith, h)
-fewer Left n k h = omega (arith, h)
+fewer _ n k h = omega (arith, h)
 
 abbrev SuitsOn : Option Link → ℕ → Type 0
 SuitsOn None n = Unit {0}
@@ -38,7 +26,7 @@ SuitsOn (Some l) n = Suits l.terms.phase n
 abbrev Once : Life → Type 0
 Once life = times_initialized life.said ≤ 1
 
--- it succeeded once at most, also if it did so many times more
+-- it succeeded once at most, also if it did k times more
 record OnceWith (k : ℕ) (s : Session) : Type 0 where
   before : All Once s.before
   present : times_initialized s.life.said + k ≤ 1
@@ -88,12 +76,9 @@ hangs (Some l) s h = record { before = h.before; present = h.present; suits = h.
 
 first_time : (phase : Phase) (n : ℕ) → is_fresh_in phase ≡ true → Suits phase (n + 0) → n + 1 ≤ 1
 first_time Fresh n e h = omega (arith, h)
-first_time Initialized n e h = absurd (let never : false ≡ true = e in cc)
-first_time Configuring n e h = absurd (let never : false ≡ true = e in cc)
-first_time Active n e h = absurd (let never : false ≡ true = e in cc)
-first_time Left n e h = absurd (let never : false ≡ true = e in cc)
+first_time _ n e h = absurd (let never : false ≡ true = e in cc)
 
--- an answer: where it succeeds so many times more, and what is agreed suits that
+-- an answer: where it succeeds n times more, and what is agreed suits that
 abbrev Fits : ℕ → Answering → Type 0
 Fits n a = (n + initializes a.outcome ≤ 1) × Suits a.terms.phase (n + initializes a.outcome)
 

@@ -1,11 +1,7 @@
 -- Requests are answered in their order, and messages are numbered in theirs.
-use Rattle.session_laws.proofs.Common.{[], All, All-nil, All-push, ap, append-nil, append_assoc, arith, Ask, asks_of, Beginning, cond, each_life, eqb, false, Happened, length, Life, Link, List, map, map-append, nat_tests, None, Option, Pending, Reached, reached_by_acts, read_on, refl, Response, response_to, Said, said_next, Session, Some, subst, sym, ℕ, ◌++◌, ◌+◌, ◌<◌, ◌∙◌, ◌∷◌, ◌≡◌}
-use Rattle.std.specs.Prelude.{flat_map}
-use Rattle.std.proofs.lemmas.List.{length-append}
+use Rattle.session_laws.proofs.Common.{[], All, All-nil, All-push, answered_as, answered_in, AnswersInOrder, ap, append-nil, append_assoc, AreNumberedFrom, arith, Ask, asked_as, asked_in, asks_of, Beginning, cond, each_life, eqb, Event as IsEvent, false, flat_map, Happened, length, length-append, Life, Link, List, map, map-append, nat_tests, None, NumbersRise, Option, Pending, pending_as, Reached, reached_by_acts, read_on, refl, Response, response_to, Said, said_next, Session, Some, subst, sym, ℕ, ◌++◌, ◌+◌, ◌<◌, ◌∙◌, ◌∷◌, ◌≡◌}
 use Rattle.std.proofs.lemmas.List.Concat.{flat_map-append}
-use Rattle.replies.specs.declared.message.Message.TheVariants.{Event as IsEvent}
 use Rattle.session.specs.Prefixes.{IsPrefixOf}
-use Rattle.session_laws.specs.Laws.{asked_as, answered_as, asked_in, answered_in, pending_as, AnswersInOrder, AreNumberedFrom, NumbersRise}
 use Rattle.session_laws.proofs.Joining.{all_joined_as}
 use Rattle.session_laws.proofs.ByForms.{KeptByOthers, KeptByAnswers, by_forms}
 

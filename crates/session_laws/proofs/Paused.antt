@@ -1,35 +1,21 @@
 -- A program that runs and is marked retires no instruction.
-use Rattle.session_laws.proofs.Common.{[], Agree, agreed_on, agrees, answer_to, Answering, answering, ap, arith, assembled, Beat, beat_by, beat_of, beats, Become, Bool, by_success, BySuccess, bytes_eq, Call, closing, Command, concluded, Connect, Debuggee, done, DropConnection, Effect, ending_of, ends, enough, eqb, false, first_run, FULL, given_of, goes_on, goes_unless, histories, Hold, hung_on, if_keeps, inl, inr, is_runnable_by, is_running, is_success, IsTrue, just_loaded, LAST_CONNECTION, leb, length, Link, List, ltb, map, Mark, marked, marked_by, MOST_PENDING, MOST_PIECE, name_asked, next_by, None, not, Now, of_answer, on_program, Option, outcome_at, Pending, performed, performed_append, performed_on, Program, Recv, Refer, referred_on, refl, replied_on, Reply, response_to, restarted, Run, run_of, Sent, Session, Slice, SliceEnd, Slicing, Some, steps, stop_event, stopped, subst, suc, sym, Tell, telling, tells, Terms, Tick, told, true, Turn, Went, why_marked, zero, ℕ, ◌&&◌, ◌||◌, ◌∙◌, ◌∷◌, ◌≡◌, ◌⊎◌}
+use Rattle.session_laws.proofs.Common.{[], Agree, agreed_on, agrees, answer_to, Answered as AnsweredRequest, answering, Answering, ap, arith, assembled, Beat, beat_by, beat_of, beats, Become, Bool, by_success, BySuccess, bytes_eq, Call, closing, Command, concluded, Connect, Cut, Debuggee, demand_of, Disconnects, done, DropConnection, EditorLeaves, Effect, ended, Ended, ending_of, ends, enough, eqb, false, first_mark, first_run, FULL, given_of, goes_on, goes_unless, Happened, histories, Hold, hung_on, if_keeps, inl, inr, is_runnable_by, is_running, is_success, IsAtRest, IsMarked, IsTrue, just_loaded, LAST_CONNECTION, leaves, leb, length, Link, List, ltb, map, Mark, marked, marked_by, MarkedRetiresNone, MatchOption, Meets, MOST_PENDING, MOST_PIECE, name_asked, name_of, next_by, None, not, Now, of_answer, OfEvent, on_program, Option, Outcome, outcome_at, Pause, PauseMarks, Pauses, Pending, performed, performed_append, performed_on, Program, Recv, Refer, referred_on, refl, replied_on, Reply, Response as IsResponse, response_to, restarted, RetiresNone, RetiresNoneIn, Run, run_of, Sent, Session, SetBreakpoints, SetFunctionBreakpoints, SetInstructionBreakpoints, SetVariable, Slice, SliceEnd, Slicing, Some, steps, stop_event, stopped, Stopped, subst, suc, sym, Tell, telling, tells, Terms, Tick, told, true, Turn, Wanted, Went, Whole, why_marked, with_functions, with_instructions, with_list, with_source, WriteMemory, zero, ℕ, ◌&&◌, ◌||◌, ◌∙◌, ◌∷◌, ◌≡◌, ◌⊎◌}
 use Rattle.std.proofs.lemmas.Bool.{or_left, or_right}
-use Rattle.std.specs.Prelude.{is_some, MatchOption}
+use Rattle.std.specs.Prelude.{is_some}
 use Rattle.answers.specs.Answers.{sets_breakpoints}
 use Rattle.answers.specs.Looking.{looks_in}
-use Rattle.breakpoints.specs.Stops.{Wanted}
-use Rattle.debuggee.specs.Programs.{with_functions, with_instructions, with_source}
-use Rattle.debuggee.specs.Programs.{ended, first_mark}
 use Rattle.debuggee.specs.declared.run.Mark.TheVariants as mark
 use Rattle.debuggee.specs.declared.run.Run.TheVariants as run
 use Rattle.debuggee.specs.declared.run.Why.TheVariants as why
-use Rattle.protocol.specs.declared.command.Command.TheVariants.{Pause, SetBreakpoints, SetFunctionBreakpoints, SetInstructionBreakpoints, SetVariable, WriteMemory}
-use Rattle.protocol.specs.Commands.{name_of}
 use Rattle.protocol.specs.declared.disconnect.TheConstants.{NAME as DISCONNECT}
 use Rattle.protocol.specs.declared.pause.TheConstants.{NAME as PAUSE}
-use Rattle.replies.specs.declared.message.Message.TheVariants.{Response as IsResponse}
 use Rattle.replies.specs.declared.response.Outcome.{Outcome as Answered}
-use Rattle.session.specs.Reached.{Happened, Whole, Cut, OfEvent, leaves}
 use Rattle.session.specs.declared.event.Applied.TheVariants.{Turn as DidTurn}
 use Rattle.session.specs.declared.event.SliceEnd.TheVariants as ending
 use Rattle.session.specs.declared.event.Event.{Event}
 use Rattle.session.specs.declared.event.Turned.TheVariants as turned
-use Rattle.handlers.specs.Breaks.{with_list}
-use Rattle.session_laws.specs.Laws.{Disconnects, EditorLeaves, IsAtRest, IsMarked, MarkedRetiresNone, PauseMarks, Pauses, RetiresNone, RetiresNoneIn}
-use Rattle.session.specs.Outcomes.{Outcome}
-use Rattle.session_laws.specs.Turns.{Answered as AnsweredRequest}
-use Rattle.handlers.specs.Requests.{demand_of}
 use Rattle.stepping.specs.declared.tick.Outcome.{Outcome as CameTo}
-use Rattle.stepping.specs.declared.tick.Outcome.TheVariants.{Stopped, Ended}
 use Rattle.session_laws.proofs.ByForms.{on}
-use Rattle.session.proofs.Serving.{Meets}
 use Rattle.session_laws.proofs.Joined.{becomes_program, program_of, same_debuggee, telling_program, tells_only, told_only}
 use Rattle.session_laws.proofs.Turning.{said_debuggee}
 use Rattle.session_laws.proofs.Answered.{ByTurn, by_turn, the_answered}
@@ -49,7 +35,7 @@ rests_one p r = inr r
 
 -- ---- a beat
 
--- what a beat of such a program leaves: it waits still, no instruction retires, and the slice goes on only where it runs
+-- what a beat of such a program leaves: it waits still, no instruction retires, and the slice continues only where it runs
 record Rests (s : Session) (b : Beat) : Type 0 where
   waits : Waits (program_of (performed histories b.acts s))
   none : b.moved ≡ 0
@@ -218,7 +204,7 @@ listed_waits (SetFunctionBreakpoints arguments) list p r m = marked_one (with_fu
 listed_waits (SetInstructionBreakpoints arguments) list p r m = marked_one (with_instructions list p) r m
 listed_waits other list p r m = marked_one p r m
 
--- the answer to a request of which the program is as it asks
+-- the answer to a request where the program is as it asks
 abbrev WaitsTaken : Now → Command → Answering → Type 0
 WaitsTaken now c a = Meets (run_of now.debuggee.program) (demand_of c) → Goes (name_of c) a
 
@@ -334,13 +320,11 @@ event_passes (Sent n) s h = outcome_passes s.now.link (Sent n) s h
 event_passes DropConnection s h = outcome_passes s.now.link DropConnection s h
 
 retires_none : (e : Event) (s : Session) → IsMarked s.now.debuggee → RetiresNone s (Whole e)
-retires_none Connect s h = tt
-retires_none (Recv piece) s h = tt
-retires_none (Turn file) s h = tt
 retires_none (Slice n) s h = (slept n (enough n) s h).none
 retires_none Hold s h = tt
 retires_none (Sent n) s h = tt
 retires_none DropConnection s h = tt
+retires_none _ s h = tt
 
 -- what happened is an event or a slice that was cut
 each_retires_none : (x : Happened) (s : Session) → IsMarked s.now.debuggee → RetiresNone s x

@@ -1,38 +1,26 @@
 -- Each answer is proper.
-use Rattle.session_laws.proofs.Common.{[], All, All-nil, All-push, All-weaker, answer_to, Answering, answering, arith, Beginning, Bool, by_success, BySuccess, closing, codes, Command, each_life, false, given_of, Happened, Has, histories, hung_on, if_keeps, IfOk, Life, Link, List, ltb, map, name_asked, None, Now, of_answer, Option, Pending, performed, performed_append, performed_on, Program, Reached, refl, Refusal, replied_on, Response, response_to, ResponseBody, Result, Run, run_of, Said, said_next, said_on, Session, SetsList, Some, subst, sym, Tell, Terms, true, ℕ, ◌+◌, ◌<◌, ◌^◌, ◌∷◌, ◌≡◌, ◌≤◌}
-use Rattle.std.proofs.Common.{Ok}
+use Rattle.session_laws.proofs.Common.{[], All, All-nil, All-push, All-weaker, answer_on, answer_to, answering, Answering, AnswersAreProper, arith, Beginning, Bool, by_success, BySuccess, closing, codes, Command, Done, each_life, Event as IsEvent, false, given_of, Happened, Has, histories, hung_on, if_keeps, IfOk, IsNarrowRow, Life, Link, List, Looks, ltb, map, name_asked, name_of, None, not_absent, Now, number_of, of_answer, Ok, Option, Pending, performed, performed_append, performed_on, Program, Reached, refl, Refusal, replied_on, Response, response_to, ResponseBody, Result, Run, run_of, Said, said_next, said_on, saying, seen_in, Session, SetsList, Some, subst, sym, Tell, Terms, true, Wanted, ℕ, ◌+◌, ◌<◌, ◌^◌, ◌∷◌, ◌≡◌, ◌≤◌}
 use Rattle.answers.specs.Laws.{HoldsWords, IsNarrow, NumbersFit}
 use Rattle.answers.proofs.Proper.{answers_are_proper as breaks_are_proper}
-use Rattle.assembler.specs.Assembled.{IsNarrowRow}
-use Rattle.breakpoints.specs.Stops.{Wanted}
 use Rattle.debuggee.specs.declared.run.Run.TheVariants.{Running, Stopped, Ended}
 use Rattle.handlers.specs.ConfigurationDone.{run_events}
 use Rattle.image.specs.Lines.{line_in, start_of}
-use Rattle.protocol.specs.Commands.{name_of}
 use Rattle.protocol.specs.Laws.{AsksLinesWithin}
 use Rattle.replies.specs.Events.{IsProperEvent}
 use Rattle.replies.specs.Messages.{IsProper}
 use Rattle.replies.specs.Responses.{IsOutcomeOf}
 use Rattle.replies.specs.declared.event.Event.{Event as Told}
-use Rattle.replies.specs.declared.message.Message.TheVariants.{Event as IsEvent}
 use Rattle.replies.specs.declared.response.Outcome.{Outcome}
-use Rattle.replies.specs.declared.response.Outcome.TheVariants.{Done}
-use Rattle.queues.specs.Arrivals.{number_of}
 use Rattle.handlers.specs.Views.{view_of}
-use Rattle.session_laws.specs.Laws.{AnswersAreProper}
 use Rattle.session_laws.proofs.ByForms.{on, on_with, with_change}
-use Rattle.session.specs.Sessions.{saying}
 use Rattle.session_laws.proofs.Turning.{BoundsIn, KeptByEvents, reached_by_events}
 use Rattle.session_laws.proofs.Asked.{AreRead, IsRead, asks_that_wait, has_no_text, number_is}
-use Rattle.session.proofs.Breaking.{answer_on}
-use Rattle.handlers.specs.Looking.{seen_in}
 use Rattle.handlers.specs.Phases.{base_of}
 use Rattle.answers.specs.declared.set_variable.Setting.{Setting}
 use Rattle.answers.specs.declared.write_memory.Writing.{Writing}
 use Rattle.answers.proofs.ProperLooking.{looks_are_proper}
 use Rattle.answers.proofs.ProperValues.{settings_are_proper, writings_are_proper}
 use Rattle.session.proofs.Orderly.{Orderly, OrderlyIn, OrderlyOf, stop_is_proper}
-use Rattle.session.proofs.BySuccess.{Looks, not_absent}
 
 -- ---- one answer
 

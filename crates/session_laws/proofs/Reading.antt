@@ -1,9 +1,7 @@
 -- The requests that came are those of the bytes that were accepted, and two pieces are as one.
-use Rattle.session_laws.proofs.Common.{[], ap, append-nil, append_assoc, Ask, asks_in, asks_of, Bool, cond, Err, false, fault_of_reading, fault_or, is_faulty, List, map, map-append, message_fault_of, None, Option, refl, Result, Some, sym, true, up_to_fault, ℕ, ◌++◌, ◌∙◌, ◌∷◌, ◌≡◌}
-use Rattle.std.proofs.Common.{is_some, Ok}
+use Rattle.session_laws.proofs.Common.{[], ap, append-nil, append_assoc, Ask, asks_in, asks_of, Bool, cond, Err, false, fault_in, fault_of, fault_of_reading, fault_or, is_faulty, is_some, List, map, map-append, message_fault_of, None, Ok, Option, reading_after, refl, Result, Some, sym, true, up_to_fault, ℕ, ◌++◌, ◌∙◌, ◌∷◌, ◌≡◌}
 use Rattle.framing.specs.Reading.{Reading, Tail, reading_of, with_bodies}
 use Rattle.framing.specs.Reading.Tail.{Partial, Faulty}
-use Rattle.framing.specs.Streams.{fault_of, reading_after}
 use Rattle.framing.specs.declared.error.FrameError.{FrameError}
 use Rattle.framing.proofs.Cutting.{reading_of-append}
 use Rattle.protocol.specs.Reading.{incoming_of}
@@ -13,7 +11,6 @@ use Rattle.protocol.specs.declared.request.MessageError.{MessageError}
 use Rattle.session.specs.declared.TheConstants.{BODY_LIMIT}
 use Rattle.session.specs.declared.event.LinkFault.{LinkFault}
 use Rattle.session.specs.declared.event.LinkFault.TheVariants.{Message}
-use Rattle.queues.specs.Arrivals.{fault_in}
 
 -- ---- messages after messages
 
@@ -72,7 +69,7 @@ message_fault_of-fault xs ys fault e =
 
 -- ---- a stream, and more of it
 
--- a faulty reading, gone on with, has the same requests and the same fault
+-- a faulty reading, continued, has the same requests and the same fault
 pub record SameFault (r : Reading) (more : Reading) : Type 0 where
   pub asks : asks_of (with_bodies r.bodies more).bodies ≡ asks_of r.bodies
   pub fault : fault_of_reading (with_bodies r.bodies more) ≡ fault_of_reading r

@@ -1,11 +1,8 @@
 -- An event that is refused changes nothing.
-use Rattle.session_laws.proofs.Common.{[], Act, answers_next, Connect, done, DropConnection, eqb, Err, FULL, histories, Hold, if_keeps, LAST_CONNECTION, leb, length, Link, List, ltb, MOST_PENDING, MOST_PIECE, next_turn, None, Now, Option, outcome_at, Pending, performed, Program, Recv, refl, Result, Sent, Session, Slice, Some, Terms, Tick, Turn, turn_by, turn_of, ℕ, ◌∷◌, ◌≡◌}
-use Rattle.std.proofs.Common.{Ok}
+use Rattle.session_laws.proofs.Common.{[], Act, answers_next, Connect, done, DropConnection, eqb, Err, FULL, histories, Hold, if_keeps, LAST_CONNECTION, leb, length, Link, List, ltb, MOST_PENDING, MOST_PIECE, next_turn, None, Now, Ok, Option, Outcome, outcome_at, Pending, performed, Program, Recv, refl, refused, RefusedChangesNothing, Result, Sent, Session, Slice, Some, Terms, Tick, Turn, turn_by, turn_of, ℕ, ◌∷◌, ◌≡◌}
 use Rattle.session.specs.declared.event.Applied.{Applied}
 use Rattle.session.specs.declared.event.Event.{Event}
 use Rattle.session.specs.declared.event.EventError.{EventError}
-use Rattle.session.specs.Outcomes.{Outcome, refused}
-use Rattle.session_laws.specs.Laws.{RefusedChangesNothing}
 
 module _ (s : Session) (error : EventError) where
   pub Unchanged : Outcome → Type 0

@@ -1,14 +1,10 @@
 -- The machine of the program remembers all that has retired since it was loaded or restarted.
-use Rattle.session_laws.proofs.Common.{[], agrees, answer_to, Answering, ap, arith, assembled, Beat, beat_by, beat_of, beats, becomes, Bool, by_move, by_success, BySuccess, Command, concluded, cond, Connect, Debuggee, DropConnection, Effect, ending_of, ends, enough, entered, eqb, Err, exit_events, exits, false, first_run, FULL, given_of, goes, goes_unless, histories, Hold, if_keeps, inl, inr, is_at_limit, is_ended, is_runnable_by, is_running, is_success, just_loaded, LAST_CONNECTION, leb, left, length, Link, List, ltb, makes_move, Mark, marked, marked_by, MOST_PENDING, MOST_PIECE, moved, moves_by, next_by, next_tick, None, not, Now, of_answer, on_program, Option, outcome_at, Pending, performed, Program, Recv, refl, restarted, Result, resumed, Run, Sent, Session, Slice, SliceEnd, Slicing, Some, start, stays, steps, stop_event, stopped, stops, subst, suc, sym, telling, tells, Terms, Tick, told, true, Turn, Went, Why, why_marked, with_hart, written, zero, ℕ, ℤ, ◌&&◌, ◌++◌, ◌+◌, ◌||◌, ◌∙◌, ◌∷◌, ◌≡◌, ◌≤◌}
-use Rattle.std.proofs.Common.{◌-◌, Ok, MatchResult, take, length-append}
-use Rattle.std.proofs.lemmas.List.{take_at}
+use Rattle.session_laws.proofs.Common.{[], agrees, answer_to, Answered, Answering, ap, arith, assembled, Beat, beat_by, beat_of, beats, becomes, Bool, by_move, by_success, BySuccess, Command, concluded, cond, Connect, Cut, Debugged, Debuggee, DropConnection, Effect, ended, Ended, ending_of, ends, enough, entered, eqb, Err, exit_events, exits, false, first_run, FULL, given_of, goes, goes_unless, gone_back, Happened, histories, Hold, if_keeps, inl, inr, is_at_limit, is_ended, is_runnable_by, is_running, is_success, IsAboutProgram, just_loaded, LAST_CONNECTION, leaves, leb, led_to, left, length, Link, List, looked_at, ltb, makes_move, Mark, marked, marked_by, MatchResult, MOST_PENDING, MOST_PIECE, moved, moves_by, next_by, next_tick, None, not, Now, of_answer, Ok, on_program, Option, Outcome as Does, outcome_at, Pending, performed, Program, Recv, refl, restarted, Result, resumed, Run, Sent, Session, Slice, SliceEnd, Slicing, Some, start, stays, steps, stop_event, stopped, Stopped, stops, subst, suc, sym, take, take_at, telling, tells, Terms, Tick, told, true, Turn, undone, undone_by, Wanted, Went, Whole, Why, why_marked, with_hart, with_list, written, zero, ℕ, ℤ, ◌&&◌, ◌++◌, ◌+◌, ◌-◌, ◌||◌, ◌∙◌, ◌∷◌, ◌≡◌, ◌≤◌}
+use Rattle.std.proofs.Common.{length-append}
 use Rattle.std.proofs.lemmas.Bool.{or_left, or_right}
-use Rattle.breakpoints.specs.Stops.{Wanted}
-use Rattle.debuggee.specs.Programs.{ended}
 use Rattle.debuggee.specs.declared.run.Mark.TheVariants as mark
 use Rattle.debuggee.specs.declared.run.Run.TheVariants as run
 use Rattle.debuggee.specs.declared.run.Why.TheVariants as why
-use Rattle.handlers.specs.Breaks.{with_list}
 use Rattle.handlers.specs.Disconnect.{departed, is_to_end, is_to_stand}
 use Rattle.image.specs.Memory.{fault_at, unless_fault, word_at}
 use Rattle.image.specs.declared.fault.MemFault.{MemFault}
@@ -17,12 +13,9 @@ use Rattle.rv32i.proofs.Moving.{the_decoding}
 use Rattle.rv32i.specs.Encoding.{IsDecoding}
 use Rattle.rv32i.specs.Machine.{Machine, machine_of}
 use Rattle.rv32i.specs.declared.instr.Instr.{Instr}
-use Rattle.session.specs.Reached.{Happened, Whole, Cut, leaves, led_to}
 use Rattle.session.specs.Config.{first_program, given}
-use Rattle.session.specs.Outcomes.{Outcome as Does}
 use Rattle.session_laws.specs.Intents.{intent_of}
 use Rattle.session_laws.specs.Retiring.{FramesAreOfThePast, IsPast, PastIsRemembered, after_answer, after_move, after_next, and_next, and_retired, asks_to_load, at_address, at_pc, decoded, loads, moved_on, retired_after, retired_by, retired_in, retired_of, without_last}
-use Rattle.session_laws.specs.Turns.{Answered}
 use Rattle.session.specs.declared.event.Event.{Event}
 use Rattle.session.specs.declared.event.SliceEnd.TheVariants as ending
 use Rattle.stepping.proofs.Determined.{one_fetched}
@@ -35,16 +28,13 @@ use Rattle.stepping.specs.Past.{IsChanged, Remembers, RemembersPast}
 use Rattle.course.specs.Positions.{IsFetched, Position, past_left}
 use Rattle.stepping.proofs.Cases.{back_of}
 use Rattle.stepping.specs.Goals.{turns_back}
-use Rattle.stepping.specs.Ticks.{Debugged, gone_back, looked_at, undone, undone_by}
 use Rattle.stepping.specs.declared.goal.Goal.{Goal}
 use Rattle.stepping.specs.declared.goal.Goal.TheVariants.{Go, In, Over, Out, Back, ReverseGo}
 use Rattle.stepping.specs.declared.tick.Outcome.{Outcome}
-use Rattle.stepping.specs.declared.tick.Outcome.TheVariants.{Stopped, Ended}
 use Rattle.stepping.specs.declared.tick.Reason.TheVariants as met
 use Rattle.session.proofs.Advancing.{move_leaves}
 use Rattle.session_laws.proofs.Answered.{ByTurn, by_turn}
 use Rattle.session_laws.proofs.ByForms.{on}
-use Rattle.session.proofs.BySuccess.{IsAboutProgram}
 use Rattle.session_laws.proofs.Joined.{becomes_program, program_of, telling_program, tells_only}
 use Rattle.session_laws.proofs.Paused.{answering_debuggee}
 
@@ -128,11 +118,7 @@ last_off left last =
 
 looked_count : (g : Goal) (d : Debugged) → (looked_at g d).retired ≡ d.retired
 looked_count Go d = refl
-looked_count (In granularity) d = refl
-looked_count (Over granularity) d = refl
-looked_count (Out granularity) d = refl
-looked_count Back d = refl
-looked_count ReverseGo d = refl
+looked_count _ d = refl
 
 back_past : (p : Program) (retired : List Retired) → p.machine.check_due ≡ false → turns_back p.machine.goal ≡ true
     → Remembers p.machine retired → Remembers (moved p).machine (without_last p.machine.past retired)
@@ -446,9 +432,6 @@ outcome_past : (l : Option Link) (e : Event) (s : Session) (retired : List Retir
     → Leaves (on l s) retired (outcome_at (histories.see (on l s)) l e) retired
 outcome_past None Connect s retired e h =
     if_keeps (λ (o : Does). Leaves (on None s) retired o retired) (eqb s.now.connections LAST_CONNECTION) _ _ (λ _ x. x) (λ _ x. x) h
-outcome_past None (Recv piece) s retired e h = h
-outcome_past None (Turn file) s retired e h = h
-outcome_past None (Slice n) s retired e h = h
 outcome_past None Hold s retired e h = on_past (marked mark.Hold) (program_of s) retired (λ p. marked_by_keeps p.run mark.Hold p) h
 outcome_past None (Sent n) s retired e h = h
 outcome_past None DropConnection s retired e h = h
@@ -463,6 +446,7 @@ outcome_past (Some l) (Sent n) s retired e h =
     (λ _ x. x) h
 outcome_past (Some l) DropConnection s retired e h =
     on_past left (program_of s) retired (λ p. record { calls = refl; count = refl; past = λ _ h. h }) h
+outcome_past None _ s retired e h = h
 
 event_past : (e : Event) (s : Session) (retired : List Retired) → IsPast (program_of s) retired
     → IsPast (program_of (Effect s e)) (and_retired s e retired)

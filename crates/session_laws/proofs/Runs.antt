@@ -1,22 +1,13 @@
 -- What is told of the program's run is so.
-use Rattle.session_laws.proofs.Common.{[], agreed_body, All, All-nil, All-push, answer_to, Answering, answering, ap, Beginning, Bool, by_success, BySuccess, closing, Command, Debuggee, each_life, false, first_run, given_of, Happened, Has, has_none, histories, hung_on, if_keeps, is_ended, is_running, is_success, Life, Link, List, ltb, map, name_asked, None, Now, of_answer, on_program, Option, Pending, performed, performed_append, performed_on, Program, Reached, refl, response_to, ResponseBody, restarted, resumed, Run, run_of, Said, said_next, said_on, SaysItsRun, Session, Some, step_body, subst, sym, Tell, Terms, true, ℕ, ◌&&◌, ◌∙◌, ◌∷◌, ◌≡◌}
-use Rattle.debuggee.specs.Programs.{ended}
+use Rattle.session_laws.proofs.Common.{[], agreed_body, All, All-nil, All-push, answer_to, answering, Answering, ap, Beginning, Bool, by_success, BySuccess, closing, Command, Debuggee, each_life, ended, Event as IsEvent, false, first_run, given_of, Happened, Has, has_none, has_program, histories, hung_on, if_keeps, is_ended, is_resume, is_running, is_success, IsStop, Life, Link, List, ltb, map, name_asked, name_of, None, not_taken, Now, of_answer, on_program, Option, Pending, performed, performed_append, performed_on, Program, Reached, reason_of, refl, Response as IsResponse, response_to, ResponseBody, Restart, restarted, resumed, Run, run_of, RunsAreTold, RunsAs, Said, said_next, said_on, SaysItsRun, Session, Some, step_body, subst, sym, Tell, Terms, text_of, true, ℕ, ◌&&◌, ◌∙◌, ◌∷◌, ◌≡◌}
 use Rattle.debuggee.specs.declared.run.Run.TheVariants.{Running, Stopped, Ended}
 use Rattle.handlers.specs.ConfigurationDone.{run_events}
-use Rattle.handlers.specs.Telling.{reason_of, text_of}
-use Rattle.protocol.specs.declared.command.Command.TheVariants.{Restart}
-use Rattle.protocol.specs.Commands.{name_of}
 use Rattle.replies.specs.declared.event.Event.{Event as Told}
 use Rattle.replies.specs.declared.message.Message.{Message}
-use Rattle.replies.specs.declared.message.Message.TheVariants.{Response as IsResponse, Event as IsEvent}
 use Rattle.replies.specs.declared.response.ResponseBody.TheVariants as body
-use Rattle.session.specs.Kinds.{is_resume}
-use Rattle.session_laws.specs.Laws.{IsStop, RunsAreTold, RunsAs}
 use Rattle.handlers.specs.Successes.{resuming, agreeing}
 use Rattle.session_laws.proofs.ByForms.{on, on_with, with_change}
-use Rattle.session.proofs.Serving.{not_taken}
 use Rattle.session_laws.proofs.Turning.{KeptByEvents, reached_by_events, said_debuggee}
-use Rattle.session.proofs.BySuccess.{has_program}
 
 -- ---- one answer
 
@@ -33,7 +24,7 @@ record Says (name : List ℕ) (a : Answering) : Type 0 where
   response : (is_success a.outcome && is_resume name) ≡ true → RunsAs Goes a.debuggee
   events : AllSay a.debuggee a.events
 
--- a program that there is runs so once this is made of it
+-- a program runs so, if there is one, once this is made of it
 runs_as : (P : Run → Type 0) (f : Program → Program) (program : Option Program) (last_break : ℕ) → has_none (run_of program) ≡ false
     → ((p : Program) → P (f p).run) → RunsAs P (record { program = on_program f program; last_break = last_break })
 runs_as P f None last_break there h = absurd (let never : true ≡ false = there in cc)
@@ -46,7 +37,7 @@ only_success : (x y : Bool) → y ≡ false → (x && y) ≡ false
 only_success true y e = e
 only_success false y e = refl
 
--- an answer that lets the program go on, where there is one
+-- an answer that lets the program continue, if there is one
 goes_on : (name : List ℕ) (now : Now) (terms : Terms) (f : Program → Program) (body : ResponseBody)
     → has_none (run_of now.debuggee.program) ≡ false → ((p : Program) → Goes (f p).run) → Says name (resuming (given_of now) terms f body)
 goes_on name now terms f body there goes =
@@ -63,7 +54,7 @@ run_is_said (Some p) last_break = by p.run refl where
       (subst (IsStop (record { hit_breakpoint_ids = []; reason = reason_of why; text = text_of why })) (sym e) (refl, refl), tt)
   by (Ended code) e = tt
 
--- a success that tells nothing, of a request that lets nothing go on
+-- a success that tells nothing, of a request that lets nothing continue
 quiet : (c : Command) (a : Answering) → is_resume (name_of c) ≡ false → a.events ≡ [] → Says (name_of c) a
 quiet c a stays none =
     record {

@@ -1,9 +1,7 @@
 -- A slice stops where a run stops.
-use Rattle.session_laws.proofs.Common.{[], ap, arith, Beat, beat_by, beat_of, beats, becomes, Bool, by_move, concluded, cond, ending_of, ends, entered, exit_events, exits, false, FULL, goes, goes_unless, histories, if_keeps, IfSome, is_at_limit, is_runnable_by, is_running, IsTrue, length, List, ltb, makes_move, Mark, MatchBool, moved, moves_by, next_by, next_tick, None, not, Option, performed, Program, refl, Result, Run, Session, sliced, SliceEnd, Slicing, Some, stays, stop_event, stopped, stops, subst, suc, sym, telling, tells, Tick, told, true, Went, Why, why_marked, zero, ℕ, ℤ, ◌&&◌, ◌+◌, ◌∙◌, ◌∷◌, ◌≡◌}
-use Rattle.std.proofs.Common.{Ok, ◌*◌}
+use Rattle.session_laws.proofs.Common.{[], ap, arith, back_outcome, Beat, beat_by, beat_of, beats, becomes, Bool, by_move, concluded, cond, Debugged, ended, Ended, ending_of, ends, entered, entry_checked, entry_tick, exit_events, exits, false, FULL, goes, goes_unless, histories, hit_at_pc, if_keeps, IfSome, is_at_limit, is_configuring, is_runnable_by, is_running, IsTick, IsTrue, length, List, looked_at, ltb, makes_move, Mark, MatchBool, moved, Moves, moves_by, next_by, next_tick, None, not, Ok, Option, outcome_of, owing, owing_by, performed, Program, refl, Result, Run, run_after, run_left, Session, Settles, sliced, SliceEnd, Slicing, Some, stays, stop_event, stopped, Stopped, stops, subst, suc, sym, telling, tells, Tick, told, true, undone_by, Went, Why, why_marked, zero, ℕ, ℤ, ◌&&◌, ◌*◌, ◌+◌, ◌∙◌, ◌∷◌, ◌≡◌}
 use Rattle.std.specs.declared.alloc.AllocError.{AllocError}
 use Rattle.breakpoints.specs.declared.breakpoint.Hit.{Hit}
-use Rattle.debuggee.specs.Programs.{ended, owing, owing_by, run_after, run_left}
 use Rattle.debuggee.specs.declared.run.Mark.TheVariants as mark
 use Rattle.debuggee.specs.declared.run.Run.TheVariants as run
 use Rattle.debuggee.specs.declared.run.Why.TheVariants as why
@@ -12,7 +10,6 @@ use Rattle.rv32i.specs.declared.instr.Instr.{Instr}
 use Rattle.rv32i.specs.declared.stepped.Cause.{Cause}
 use Rattle.rv32i.specs.declared.stepped.Stepped.{Stepped}
 use Rattle.rv32i.specs.declared.stepped.Stepped.TheVariants as stepped
-use Rattle.session.specs.Phases.{is_configuring}
 use Rattle.session.specs.declared.event.SliceEnd.TheVariants as ending
 use Rattle.session_laws.specs.Stopping.{SaysWhere, SaysWhereIn, SlicesStopThere, StaysAs, machine_told, next_number}
 use Rattle.stepping.proofs.Existing.{the_tick}
@@ -22,16 +19,14 @@ use Rattle.stepping.specs.Stopping.{NoneBelow, StopsAt}
 use Rattle.course.specs.Positions.{Position}
 use Rattle.stepping.proofs.Cases.{Enters, GoesBack, tick_of_entry}
 use Rattle.stepping.specs.Goals.{turns_back}
-use Rattle.stepping.specs.Ticks.{Debugged, IsTick, Moves, Settles, back_outcome, hit_at_pc, looked_at, outcome_of, entry_checked, entry_tick, undone_by}
 use Rattle.stepping.specs.declared.goal.Goal.{Goal}
 use Rattle.stepping.specs.declared.goal.Goal.TheVariants.{Go, In, Over, Out, Back, ReverseGo}
 use Rattle.stepping.specs.declared.tick.Outcome.{Outcome}
-use Rattle.stepping.specs.declared.tick.Outcome.TheVariants.{Stopped, Ended}
 use Rattle.stepping.specs.declared.tick.Reason.TheVariants as met
 use Rattle.session.proofs.Advancing.{move_leaves}
 use Rattle.session_laws.proofs.Joined.{becomes_program, program_of, slices_end, telling_program, tells_only}
 
--- ---- the ticks of a run that goes on
+-- ---- the ticks of a run that continues
 
 -- no reason applies at the number of any of them
 no_entry : (start : Debugged) → start.check_due ≡ false → NoneBelow 1 start
@@ -65,28 +60,17 @@ but_logs logs d = record d { lists = record d.lists { logs = logs } }
 settles_so : (logs : List ℕ) (d : Debugged) (instr : Option Instr) (s : Stepped) (tick : Tick) (after : Debugged)
     → Settles (but_logs logs d) instr s (Ok tick) after → Settles d instr s (Ok tick) after
 settles_so logs d instr stepped.Retired tick after h = h
-settles_so logs d instr (stepped.Printed number) tick after h = h
-settles_so logs d instr stepped.Break tick after h = h
-settles_so logs d instr (stepped.Exit code) tick after h = h
-settles_so logs d instr (stepped.Trap cause) tick after h = h
+settles_so logs d instr _ tick after h = h
 
 back_says : (g : Goal) (past : List Position) (logs : List ℕ) (d : Debugged)
     → back_outcome g (undone_by past (but_logs logs d)) ≡ back_outcome g (undone_by past d)
 back_says ReverseGo [] logs d = refl
 back_says ReverseGo (before ∷ past) logs d = refl
-back_says Go past logs d = refl
-back_says (In granularity) past logs d = refl
-back_says (Over granularity) past logs d = refl
-back_says (Out granularity) past logs d = refl
-back_says Back past logs d = refl
+back_says _ past logs d = refl
 
 looked_so : (g : Goal) (logs : List ℕ) (d : Debugged) → looked_at g (but_logs logs d) ≡ looked_at g d
 looked_so ReverseGo logs d = refl
-looked_so Go logs d = refl
-looked_so (In granularity) logs d = refl
-looked_so (Over granularity) logs d = refl
-looked_so (Out granularity) logs d = refl
-looked_so Back logs d = refl
+looked_so _ logs d = refl
 
 back_leaves : (g : Goal) (past : List Position) (logs : List ℕ) (d : Debugged)
     → looked_at g (undone_by past (but_logs logs d)) ≡ looked_at g (undone_by past d)
@@ -122,7 +106,7 @@ ticks_so logs d tick after t = go d.check_due (turns_back d.goal) t where
 
 -- ---- how far a slice is
 
--- the run goes on, and owes nothing; what its logpoints said was told
+-- the run continues, and owes nothing; what its logpoints said was told
 record Going (start : Debugged) (made : ℕ) (p : Program) : Type 0 where
   forward : turns_back start.goal ≡ false
   ticks : ℕ
@@ -147,7 +131,7 @@ record Owing (start : Debugged) (made : ℕ) (p : Program) (tick : Tick) : Type 
   due : p.machine.check_due ≡ false
   stay : stays tick.outcome ≡ false
 
--- where a slice goes on, by what is owed
+-- where a slice continues, by what is owed
 Middle : Debugged → ℕ → Program → Option Tick → Type 0
 Middle start made p None = Going start made p
 Middle start made p (Some tick) = Owing start made p tick
@@ -163,7 +147,7 @@ zero_more n = omega arith
 
 -- ---- what a tick comes to
 
--- a tick of a run that goes on, and that leaves this program
+-- a tick of a run that continues, and that leaves this program
 record Ticked (start : Debugged) (made : ℕ) (p : Program) (tick : Tick) : Type 0 where
   forward : turns_back start.goal ≡ false
   ticks : ℕ
@@ -175,7 +159,7 @@ record Ticked (start : Debugged) (made : ℕ) (p : Program) (tick : Tick) : Type
   due : p.machine.check_due ≡ false
   stay : stays tick.outcome ≡ false
 
--- the run goes on after it
+-- the run continues after it
 goes_after : (start : Debugged) (made : ℕ) (p q : Program) (tick : Tick) (logs : List ℕ) → Ticked start made p tick → tick.outcome ≡ Went
     → q.machine ≡ but_logs logs p.machine → q.owed ≡ None → q.run ≡ p.run → Going start made q
 goes_after start made p q tick logs t went same owed run = record {
@@ -557,7 +541,7 @@ slices_go s p n (suc k) is runs forward =
 
 -- ---- one that stands still
 
--- it may not go on
+-- it may not continue
 pub no_more : {A : Type 0} (running other : Bool) → running ≡ false → not (running && other) ≡ false → A
 no_more true other e f = absurd (let no : true ≡ false = e in cc)
 no_more false other e f = absurd (let no : true ≡ false = f in cc)

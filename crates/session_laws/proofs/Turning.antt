@@ -1,37 +1,25 @@
 -- What is kept by each event, where answers are looked at whole.
-use Rattle.session_laws.proofs.Common.{[], Act, Agree, agreed_on, answer_to, Answering, answering, answers_next, append-nil, arith, assembled, Beat, beat, beat_by, beat_of, beats, Become, Beginning, Bool, by_move, by_success, BySuccess, Call, Close, closing, Command, concludes, Connect, Debuggee, DropConnection, Effect, ends, enough, eqb, Err, exit_events, exits, false, first_run, FULL, given_of, goes, goes_unless, halts, Happened, histories, Hold, hung_on, if_keeps, IfOk, IfSome, is_at_limit, is_runnable_by, LAST_CONNECTION, leb, left, length, Link, List, logged, ltb, ltb-true, makes_move, map, Mark, marked, MOST_PENDING, MOST_PIECE, moves_by, nat_tests, next_by, next_tick, next_turn, None, not, Now, of_answer, Open, Option, outcome_at, output_events, Pending, performed, performed_append, performed_on, Program, Reached, read_on, Recv, Refer, referred, referred_on, refl, Refusal, replied_on, Reply, response_to, restarted, Result, resumed, said_on, SaysItsRun, Seen, Sent, Session, Slice, SliceEnd, Some, start, stop_event, stopped, subst, suc, sym, Take, Tell, telling, tells, Terms, Tick, told, true, Turn, turn_by, turn_of, Went, Why, why_marked, with_hart, written, zero, ℕ, ℤ, ◌&&◌, ◌++◌, ◌+◌, ◌<◌, ◌^◌, ◌∷◌, ◌≡◌, ◌≤◌}
-use Rattle.std.proofs.Common.{Ok}
+use Rattle.session_laws.proofs.Common.{[], accepting, Act, Agree, agreed_on, All-take, answer_to, answering, Answering, answers_next, append-nil, arith, assembled, at_next_stop, beat, Beat, beat_by, beat_of, beats, Become, Beginning, Bool, by_move, by_success, BySuccess, Call, Close, closing, Command, concludes, Connect, Debuggee, DropConnection, Effect, ended, Ended, ends, enough, eqb, Err, Event as IsEvent, exit_events, exits, false, first_run, FULL, given_of, goes, goes_unless, halts, Happened, has_room, histories, Hold, holding, hung_on, ids_are_words, if_keeps, IfOk, IfSome, is_active, is_at_limit, is_runnable_by, LAST_CONNECTION, leaving, leb, left, length, Link, List, log_event, logged, ltb, ltb-true, makes_move, map, Mark, marked, MOST_PENDING, MOST_PIECE, moves_by, nat_tests, next_by, next_of, next_tick, next_turn, None, not, Now, Numbers, of_answer, Ok, Open, Option, Outcome, outcome_at, output_events, Pending, performed, performed_append, performed_on, Program, reached, Reached, read_on, Recv, Refer, referred, referred_on, refl, Refusal, replied_on, Reply, Response as IsResponse, response_to, restarted, Result, resumed, said_on, saying, SaysItsRun, Seen, seen_in, Sent, Session, Slice, SliceEnd, Some, start, stop_event, stopped, Stopped, subst, suc, sym, Take, Target, Tell, telling, tells, Terms, Tick, told, true, Turn, turn_by, turn_of, Went, Why, why_marked, with_hart, with_list, with_program, with_targets, written, zero, ℕ, ℤ, ◌&&◌, ◌++◌, ◌+◌, ◌<◌, ◌^◌, ◌∷◌, ◌≡◌, ◌≤◌}
 use Rattle.std.specs.Prelude.{take}
 use Rattle.assembler.proofs.Narrow.{assembled_is_narrow}
-use Rattle.debuggee.specs.Programs.{with_program, ended}
 use Rattle.debuggee.specs.declared.run.Mark.TheVariants as mark
 use Rattle.debuggee.specs.declared.run.Why.TheVariants as why
 use Rattle.replies.specs.Events.{IsProperEvent}
 use Rattle.replies.specs.declared.event.Event.{Event as Told}
 use Rattle.replies.specs.declared.message.Message.{Message}
-use Rattle.replies.specs.declared.message.Message.TheVariants.{Response as IsResponse, Event as IsEvent}
 use Rattle.replies.specs.declared.response.Outcome.{Outcome as Answered}
 use Rattle.rv32i.specs.Laws.{IsSignedWord}
 use Rattle.session.specs.declared.event.SliceEnd.TheVariants as ending
 use Rattle.session.specs.declared.event.Event.{Event}
 use Rattle.session.specs.declared.limits.Limits.{Limits}
-use Rattle.handlers.specs.Breaks.{with_list}
 use Rattle.handlers.specs.Sizes.{is_size}
 use Rattle.session.specs.Config.{HasImage, first_program}
 use Rattle.handlers.specs.Disconnect.{departed, is_to_end, is_to_stand}
 use Rattle.session.specs.Limits.{are_limits, greatest_limits, is_within}
-use Rattle.session.specs.Outcomes.{Outcome, holding, leaving}
-use Rattle.session.specs.Phases.{is_active}
-use Rattle.handlers.specs.Telling.{log_event}
 use Rattle.stepping.specs.RunLaws.{HasSignedCode}
 use Rattle.stepping.specs.declared.tick.Outcome.{Outcome as CameTo}
-use Rattle.stepping.specs.declared.tick.Outcome.TheVariants.{Stopped, Ended}
 use Rattle.stepping.specs.declared.tick.Reason.TheVariants as met
-use Rattle.session.proofs.Reaching.{reached}
 use Rattle.session_laws.proofs.ByForms.{on, on_with}
-use Rattle.session.specs.Sessions.{accepting, saying}
-use Rattle.session.proofs.Breaking.{ids_are_words}
-use Rattle.handlers.specs.Looking.{seen_in}
 use Rattle.answers.specs.SetVariable.{set_in, setting_of, set_variable}
 use Rattle.answers.specs.Targets.{target_of}
 use Rattle.answers.specs.declared.set_variable.Setting.{Setting}
@@ -43,11 +31,8 @@ use Rattle.range_laws.specs.Requests.{GivesBytes}
 use Rattle.range_laws.proofs.Images.{assembled_is_in_range}
 use Rattle.range_laws.proofs.Settings.{registers_stay_in_range, texts_give_words}
 use Rattle.rv32i.specs.declared.hart.Hart.{Hart}
-use Rattle.std.proofs.lemmas.List.Elements.{All-take}
-use Rattle.variables.specs.Numbers.{Numbers, at_next_stop, has_room, next_of, with_targets}
 use Rattle.variables.specs.Registers.{name_answer}
 use Rattle.variables.specs.Values.{value_of}
-use Rattle.variables.specs.declared.target.Target.{Target}
 use Rattle.variables.specs.declared.target.Target.TheVariants as target
 use Rattle.session_laws.proofs.Asked.{AreRead, IsRead, asks_that_wait, joined_are_read}
 use Rattle.session.proofs.Orderly.{AreWords, Orderly, OrderlyIn, OrderlyOf, departed_orderly, ended_orderly, entered_orderly, exit_is_proper, first_run_orderly, hart_orderly, written_orderly, ids_are_words as named_are_words, left_orderly, listed_orderly, loaded_orderly, log_is_proper, marked_orderly, moved_orderly, next_fits, output_is_proper, owed_fits, restarted_orderly, resumed_orderly, stop_is_proper, stopped_orderly, told_orderly, with_orderly}

@@ -1,11 +1,7 @@
 -- The bytes of a connection: those that were taken, and then those that wait. And the lives are at their numbers.
-use Rattle.session_laws.proofs.Common.{[], All, All-nil, All-push, ap, append-nil, append_assoc, Beginning, each_life, Happened, length, Life, Link, List, None, Option, Reached, reached_by_acts, refl, Said, Session, Some, subst, sym, ℕ, ◌++◌, ◌+◌, ◌∙◌, ◌∷◌, ◌≡◌}
-use Rattle.std.proofs.Common.{get_or, drop, take, take-append-drop, zero, suc}
-use Rattle.std.proofs.lemmas.List.{length-append}
+use Rattle.session_laws.proofs.Common.{[], All, All-nil, All-push, ap, append-nil, append_assoc, Beginning, bytes_of, drop, each_life, EveryByteIsTakenOrWaits, frame_said, get_or, Happened, length, length-append, Life, Link, List, LivesAreNumbered, no_life, None, Option, Reached, reached_by_acts, refl, Said, Session, Some, subst, suc, sym, take, take-append-drop, with_said, with_taken, zero, ℕ, ◌++◌, ◌+◌, ◌∙◌, ◌∷◌, ◌≡◌}
 use Rattle.std.proofs.lemmas.List.Concat.{flat_map-append}
 use Rattle.session.specs.Prefixes.{IsPrefixOf}
-use Rattle.session.specs.Sessions.{no_life, bytes_of, frame_said, with_said, with_taken}
-use Rattle.session_laws.specs.Laws.{EveryByteIsTakenOrWaits, LivesAreNumbered}
 use Rattle.session_laws.proofs.ByForms.{KeptByOthers, KeptByAnswers, by_forms}
 
 abbrev Taken : Life → Type 0

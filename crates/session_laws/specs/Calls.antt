@@ -1,8 +1,8 @@
 -- What calls of a session lead to.
 --
--- A session stands for one with all of its past. Whatever that one was reached by, a call adds to what happened: its event; or,
--- where a slice found no memory, as many beats of it as were made, after which the next one may lack memory; or nothing, where
--- another event found none. So all that a session stands for is reached, whatever is called and wherever memory runs out.
+-- A session represents one with all of its past. Whatever that one was reached by, a call adds to what happened: its event; or,
+-- where a slice found no memory, the beats that it made, after which the next one may lack memory; or nothing, where
+-- another event found none. So all that a session represents is reached, whatever is called and wherever memory runs out.
 use Rattle.std.specs.Prelude.{◌≡◌, ℕ, nat_lt, List, [], ◌∷◌, ◌++◌, Option, Some, None, Result, Ok, Err}
 use Rattle.session.specs.Effects.{MayLack, beats, moves_asked, ran_out}
 use Rattle.session.specs.Kept.{Happens, Kept, Stands}
@@ -13,7 +13,7 @@ use Rattle.session.specs.declared.event.Event.{Event}
 use Rattle.session.specs.declared.event.EventError.{EventError}
 use Rattle.session.specs.declared.event.EventError.TheVariants.{NoMemory}
 
--- the slice broke off after so many moves, and this of it happened
+-- the slice broke off after this many moves, and this of it happened
 pub record IsCut (s : Session) (n moved : ℕ) (more : List Happened) : Type 0 where
   pub count : ℕ
   pub is : more ≡ Cut n count ∷ []
@@ -32,7 +32,7 @@ Adds s e (Ok x) more = AddsDone s e (ran_out x) more
 Adds s e (Err NoMemory) more = more ≡ []
 Adds s e (Err other) more = more ≡ Whole e ∷ []
 
--- what stood for a session stands for what this leads to, after the call
+-- what represented a session represents what this leads to, after the call
 pub record Leads (s : Session) (e : Event) (result : Result Applied EventError) (new : Kept) : Type 0 where
   pub more : List Happened
   pub adds : Adds s e result more

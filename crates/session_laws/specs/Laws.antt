@@ -107,7 +107,7 @@ RequestsAreRead s =
     (c : ℕ) → (life_of c s).heard ≡ asks_of (reading_of BODY_LIMIT (life_of c s).accepted).bodies
 
 -- What closed the last connection that was made is the fault of the bytes that were accepted on it, if they have one:
--- its first body that is no message, or the frame that cannot go on.
+-- its first body that is no message, or the frame that cannot continue.
 abbrev pub FaultIsOfTheBytes : Session → Type 0
 FaultIsOfTheBytes s = s.now.fault ≡ fault_of_reading (reading_of BODY_LIMIT s.life.accepted)
 
@@ -168,7 +168,7 @@ RunsAs P d = MatchOption d.program ⊥ (λ p. P p.run)
 abbrev pub resumes : Response → Bool
 resumes r = is_success r.outcome && is_resume r.command
 
--- What a message says of the program's run is so of this program: that it stands still, and why; that it goes on; that
+-- What a message says of the program's run is so of this program: that it stands still, and why; that it continues; that
 -- it has ended, and with which code.
 abbrev pub SaysItsRun : Message → Debuggee → Type 0
 SaysItsRun (IsResponse r) d = resumes r ≡ true → RunsAs (λ run. is_running run ≡ true) d

@@ -30,7 +30,7 @@ use Rattle.variables.specs.declared.target.Target.TheVariants.{Frame, Registers,
 abbrev pub ReferencesRise : Session → Type 0
 ReferencesRise s = map (λ r. r.number) s.references.issued ≡ down_from (length s.references.issued)
 
--- a reference that was issued, of which this is so
+-- a reference that was issued, and this is so of it
 pub record WasIssued (s : Session) (IsSo : Reference → Type 0) : Type 0 where
   pub reference : Reference
   pub place : ℕ

@@ -76,7 +76,7 @@ after_next n (Some e) d retired = retired
 after_next n None d retired =
     and_next (beat (histories.see d.state) (nat_lt d.moved n)).moved d.state.now.debuggee.program retired
 
--- after so many beats of a slice of n moves
+-- after this many beats of a slice of n moves
 abbrev pub retired_in : ℕ → ℕ → Session → List Retired → List Retired
 retired_in n zero s retired = retired
 retired_in n (suc k) s retired =

@@ -24,22 +24,22 @@ use Rattle.stepping.specs.declared.tick.Outcome.{Outcome}
 use Rattle.stepping.specs.declared.tick.Outcome.TheVariants.{Stopped, Ended}
 use Rattle.stepping.specs.declared.tick.Tick.{Tick}
 
--- the number that comes next after so many moves: the one of the check at the entry as long as that is due
+-- the number that comes next after this many moves: the one of the check at the entry as long as that is due
 abbrev pub next_number : ℕ → Debugged → ℕ
 next_number moved d = if d.check_due then moved else suc moved
 
--- the number of the last tick after so many moves, by what it came to: an instruction that stays was met by one more
+-- the number of the last tick after this many moves, by what it came to: an instruction that stays was met by one more
 abbrev pub number_of : ℕ → Outcome → ℕ
 number_of moved outcome = if stays outcome then suc moved else moved
 
--- what so many moves from a machine say of its run, by how the program runs then
+-- what this many moves from a machine say of its run, by how the program runs then
 abbrev pub SaysWhere : ℕ → Run → Debugged → Debugged → Type 0
 SaysWhere moved (StandsStill (why.Met reason)) start now =
     StopsAt (number_of moved (Stopped reason)) (Stopped reason) start
 SaysWhere moved (HasEnded (Some code)) start now = StopsAt (suc moved) (Ended code) start
 SaysWhere moved other start now = NoneBelow (next_number moved now) start
 
--- what a slice says of the run that it goes on with
+-- what a slice says of the run that it continues
 abbrev pub SaysWhereIn : ℕ → Option Program → Debugged → Type 0
 SaysWhereIn moved None start = ⊥
 SaysWhereIn moved (Some p) start = SaysWhere moved (run_left p.owed p.run) start p.machine
@@ -54,7 +54,7 @@ abbrev pub StaysAs : Run → Option Program → Type 0
 StaysAs run None = ⊥
 StaysAs run (Some p) = run_left p.owed p.run ≡ run
 
--- What a slice says is so, where the program runs and goes on once what it owes is told; else it makes no move. So it is
+-- What a slice says is so, where the program runs and continues once what it owes is told; else it makes no move. So it is
 -- after each number of its beats; and where it is whole, it leaves nothing owed.
 pub record SlicesStopThere (s : Session) : Type 0 where
   pub goes : (p : Program) (n count : ℕ) → s.now.debuggee.program ≡ Some p → is_running (run_left p.owed p.run) ≡ true →

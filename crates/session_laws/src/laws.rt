@@ -10,8 +10,8 @@ ghost use Rattle.session_laws.specs.Stopping.{SlicesStopThere};
 ghost use Rattle.session_laws.specs.Retiring.{FramesAreOfThePast, PastIsRemembered};
 ghost use Rattle.session_laws.specs.Lifetimes.{ReferencesLast, ReferencesRise, ReferencesStand};
 
-/// Whatever a session stands for, after a call it stands for what that leads to: what its event leaves; where a slice found no memory, what
-/// as many of its beats leave as were made; or, where another event found none, the same as before. From what was reached that leads to
+/// Whatever a session represents, after a call it represents what that leads to: what its event leaves; where a slice found no memory, what
+/// the beats that it made leave; or, where another event found none, the same as before. From what was reached that leads to
 /// what is reached, and events that are done lead to what they leave.
 pub fn calls_lead_to_what_is_reached()
     ensures calls { CallsLead }

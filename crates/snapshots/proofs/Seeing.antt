@@ -1,4 +1,4 @@
--- What a snapshot keeps is what there was to see.
+-- What a snapshot keeps is what an editor could see.
 use mathlib.Core.Path.{fun_ext}
 use Rattle.std.proofs.Common.{◌≡◌, ℕ, ◌+◌, ◌<◌, ◌++◌, length, drop, slice_index, List, [], ◌∷◌, Option, Some, None, refl, sym, ap, ◌∙◌, arith, zero, suc, subst}
 use Rattle.std.proofs.Math.Seq.{drop-cons}

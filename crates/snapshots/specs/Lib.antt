@@ -1,6 +1,6 @@
--- What there is to see of a program that is debugged, and what a snapshot keeps of it.
+-- What an editor could see of a program that is debugged, and what a snapshot keeps of it.
 
--- what there is to see, as facts
+-- what an editor could see, as facts
 pub mod Shown
 -- what a snapshot keeps of it
 pub mod Snapshots

@@ -1,4 +1,4 @@
--- What there is to see of the program that is debugged, as facts.
+-- What an editor could see of the program that is debugged, as facts.
 --
 -- A snapshot has more than an editor can ask for. This is the part that messages tell: whether the machine runs, its
 -- breakpoints, the frames of its call stack with the numbers that they have in this stop, its registers, and its memory.
@@ -19,7 +19,7 @@ use Rattle.rv32i.specs.declared.hart.Hart.{Hart}
 use Rattle.variables.specs.Numbers.{Numbers, number_in}
 use Rattle.variables.specs.declared.target.Target.TheVariants.{Frame}
 
--- what there is to see at one time: the program that is debugged, and the numbers of its frames and scopes
+-- what is seen at one time: the program that is debugged, and the numbers of its frames and scopes
 pub record Snapshot : Type 0 where
   pub debuggee : Debuggee
   pub numbers : Numbers
@@ -51,12 +51,12 @@ abbrev pub frame_at : Table → Numbers → ℕ → Option ℕ → Option FrameI
 frame_at table numbers index None = None
 frame_at table numbers index (Some address) = Some (frame_in table numbers index address)
 
--- the value of a register, of which the last is pc
+-- the value of a register; the last one is pc
 abbrev pub register_at : Hart → ℕ → Option ℕ
 register_at hart number = if number == 32 then Some hart.pc
     else if nat_lt number 32 then Some (slice_index hart.x number) else None
 
--- what there is to see of a program
+-- what an editor could see of a program
 abbrev pub shown_of : Program → Numbers → Facts
 shown_of p numbers = record {
   run = state_of p.run;
@@ -73,6 +73,6 @@ abbrev pub shown_by : Option Program → Numbers → Facts
 shown_by None numbers = nothing_known
 shown_by (Some p) numbers = shown_of p numbers
 
--- what there is to see
+-- what an editor could see
 abbrev pub shown : Snapshot → Facts
 shown s = shown_by s.debuggee.program s.numbers

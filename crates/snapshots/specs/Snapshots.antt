@@ -48,7 +48,7 @@ captured_of p numbers = record {
   memory = p.machine.memory;
 }
 
--- what is kept of what there is to see
+-- what is kept of a session at one time
 abbrev pub captured : Snapshot → Option Captured
 captured s = option_map (λ p. captured_of p s.numbers) s.debuggee.program
 
@@ -76,7 +76,7 @@ seen_of (Some c) = facts_in c
 abbrev pub path_of : Option Captured → Option (List ℕ)
 path_of = option_map (λ c. c.path)
 
--- A snapshot has been taken of what there was to see: its facts are those, and its path is that of the program.
+-- A snapshot was taken of what an editor could see: its facts are those, and its path is that of the program.
 pub record IsTaken (taken : Option Captured) (seen : Snapshot) : Type 0 where
   pub facts : seen_of taken ≡ shown seen
   pub path : path_of taken ≡ option_map (λ p. p.path) seen.debuggee.program

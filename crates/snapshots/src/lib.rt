@@ -1,4 +1,4 @@
-//! What there is to see of a program that is debugged: a copy of all that an editor could be told of it.
+//! A copy of all that an editor could be told of a program that is debugged.
 #![tactic(auto)]
 
 mod captured;

@@ -1,4 +1,4 @@
-//! What there is to see of a session at one time.
+//! What an editor could see of a session at one time.
 ghost use Rattle.std.specs.Prelude.{◌≢◌, None, OnErr, ◌≡◌, IfOk, option_copied, option_map, slice_get};
 ghost use Rattle.snapshots.specs.Snapshots.{as_running, captured_of, path_of, run_if, seen_of};
 
@@ -9,8 +9,8 @@ use std::alloc::{AllocError, Global};
 use std::marker::Model;
 use variables::Handles;
 
-/// What there is to see of a session at one time: of the program that is debugged, all that an editor could be told of it. It is a copy,
-/// and answers what a `Mirror` answers, of which an editor may know less. A contract sees what is kept of the program, if there is one.
+/// What an editor could see of a session at one time: all that it could be told of the program that is debugged. It is a copy,
+/// and answers what a `Mirror` answers, which may know less. A contract sees what is kept of the program, if there is one.
 #[derive(Drop)]
 pub struct Snapshot {
     program: Option<Captured>,
@@ -26,7 +26,7 @@ impl Model for Snapshot {
 }
 
 impl Snapshot {
-    /// What there is to see where this is debugged, and frames have these numbers. It fails where no memory is left, and
+    /// The snapshot where this is debugged and frames have these numbers. It fails where no memory is left, and
     /// never where there is no program.
     pub fn of(
         alloc: Global,

@@ -1,7 +1,7 @@
 -- Laws of directives: what each states of its operands.
 --
--- Lines are as in OperandLaws. `.space` states so many zero bytes, `.align` zero bytes up to a
--- multiple of that power of 2, and `.word`, `.half` and `.byte` state data, item after item.
+-- Lines are as in OperandLaws. `.space` states a number of zero bytes, `.align` zero bytes up to a
+-- multiple of a power of 2, and `.word`, `.half` and `.byte` state data, item after item.
 use Rattle.std.specs.Prelude.{◌≡◌, ℕ, true, false, ◌⊎◌, List, [], ◌∷◌, ◌++◌, Some, Result, Err}
 use Rattle.std.specs.Prelude.{codes}
 use Rattle.statements.specs.Mnemonics.{mnemonic_of}

@@ -59,17 +59,17 @@ abbrev pub IsSpoken : Option Spoken → List ℕ → Type 0
 IsSpoken None text = AllBlank text
 IsSpoken (Some (mnemonic, operands)) text = IsStatement mnemonic operands text
 
--- a text is divided so
+-- a text is divided in this way
 pub record IsLine (text : List ℕ) (d : Division) : Type 0 where
   pub rest : List ℕ
   pub labelled : Labelled d.labels text rest
   pub spoken : IsSpoken d.spoken rest
 
--- what a line says that is divided so
+-- what a line says that is divided in this way
 abbrev pub says : Option Spoken → Result (Option Statement) LineError
 says None = Ok None
 says (Some (mnemonic, operands)) = stating (said_by (mnemonic_of mnemonic) operands)
 
--- the line that is divided so, or its error
+-- the line that is divided in this way, or its error
 abbrev pub means : Division → Result Line LineError
 means d = line_of d.labels (says d.spoken)

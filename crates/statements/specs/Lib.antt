@@ -18,7 +18,7 @@ pub mod Directives
 pub mod Reading
 -- the same by rules: what a line is made of, and what it means
 pub mod Grammar
--- what a pseudo-instruction stands for
+-- what a pseudo-instruction means
 pub mod Pseudo
 -- the statement that the disassembly of an instruction is
 pub mod Texts

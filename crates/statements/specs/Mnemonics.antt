@@ -77,7 +77,7 @@ directives = (codes ".word", Data w.Word) ∷ (codes ".half", Data w.Half) ∷ (
     (codes ".space", Space) ∷ (codes ".align", Align) ∷ (codes ".text", Section) ∷ (codes ".data", Section) ∷
     (codes ".globl", Global) ∷ (codes ".global", Global) ∷ []
 
--- the first that there is
+-- the first, if any, and else the other
 abbrev pub or_else : Option Mnemonic → Option Mnemonic → Option Mnemonic
 or_else None other = other
 or_else (Some mnemonic) other = Some mnemonic
@@ -87,7 +87,7 @@ abbrev pub first_named : List (List (List ℕ × Mnemonic)) → List ℕ → Opt
 first_named [] text = None
 first_named (table ∷ tables) text = or_else (named table text) (first_named tables text)
 
--- what a name stands for, if it is a mnemonic or a directive's name
+-- what a name means, if it is a mnemonic or a directive's name
 abbrev pub mnemonic_of : List ℕ → Option Mnemonic
 mnemonic_of text = first_named (immediate_mnemonics ∷ access_mnemonics ∷ branch_mnemonics ∷ zero_branch_mnemonics ∷
     register_mnemonics ∷ copy_mnemonics ∷ jump_mnemonics ∷ plain_mnemonics ∷ directives ∷ []) text

@@ -1,5 +1,5 @@
 -- Pseudo-instructions (RISC-V Unprivileged ISA 20191213, chapter 25, tables 25.2 and 25.3): each line of one is read as
--- the line of the instruction is that it stands for.
+-- the line of the instruction is that it means.
 --
 -- Its operands may be any that are spelled plainly, as registers, labels and numbers are. They need not be right: where
 -- one is wrong, both lines have the same error.
@@ -39,7 +39,7 @@ with_one name a = name ++ (codes " " ++ a)
 abbrev pub at_register : List ℕ → List ℕ
 at_register s = codes "0(" ++ (s ++ codes ")")
 
--- a mnemonic with one operand stands for a line that has it too
+-- a mnemonic with one operand means a line that has it too
 abbrev pub OfOne : List ℕ → (List ℕ → List ℕ) → Type 0
 OfOne name line = (a : List ℕ) → is_plain a ≡ true → read (with_one name a) ≡ read (line a)
 

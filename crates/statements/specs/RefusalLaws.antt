@@ -35,7 +35,7 @@ use Rattle.statements.specs.declared.operations.ImmediateOperation.{ImmediateOpe
 
 -- ---- how many operands
 
--- whether a mnemonic takes so many operands
+-- whether a mnemonic takes `n` operands
 abbrev pub takes_count : Mnemonic → ℕ → Bool
 takes_count (Registers op) n = n == 3
 takes_count (Immediate op) n = n == 3
@@ -79,14 +79,13 @@ NumberOfOperandsMatters = (name : List ℕ) (mnemonic : Mnemonic) (operands : Li
 abbrev pub NoRegister : List ℕ → Type 0
 NoRegister text = (r : ℕ) → Names text r → ⊥
 
--- one of the first so many texts is no register's name
+-- among this many texts from the first on, one is no register's name
 abbrev pub OneIsNoRegister : ℕ → List (List ℕ) → Type 0
 OneIsNoRegister zero texts = ⊥
 OneIsNoRegister (suc k) [] = ⊥
 OneIsNoRegister (suc k) (text ∷ texts) = NoRegister text ⊎ OneIsNoRegister k texts
 
--- how many of its operands a mnemonic wants to be registers, where it has so many operands: they
--- come first
+-- how many of its `n` operands a mnemonic wants to be registers: they come first
 abbrev pub registers_of : Mnemonic → ℕ → ℕ
 registers_of (Registers op) n = 3
 registers_of (Immediate op) n = 2

@@ -2,8 +2,8 @@
 --
 -- An instruction at an address has a text (the page Texts of the crate rv32i). It is a line with no label and one
 -- statement, and the statement is the instruction, but for two kinds. JAL and branches are written with the address
--- that they go to, so the statement is a jump or a branch to that address. A FENCE that no statement of its own stands
--- for is written as its word, so the statement is data: one item of four bytes.
+-- that they go to, so the statement is a jump or a branch to that address. A FENCE without a statement of its own
+-- is written as its word, so the statement is data: one item of four bytes.
 use Rattle.std.specs.Prelude.{◌≡◌, ℕ, if◌then◌else◌, [], ◌∷◌, Some, Result, Ok, refl}
 use Rattle.rv32i.specs.Machine.{sum}
 use Rattle.rv32i.specs.Texts.{is_plain_fence}

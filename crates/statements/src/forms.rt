@@ -2,7 +2,6 @@
 ghost use Rattle.std.specs.Prelude.{◌≡◌, ◌≤◌, ◌<◌, ◌+◌, ◌*◌, ◌%◌, ◌^◌, ◌∷◌, List, ℕ, length, codes, Option, Some, None, Ok, Err, IfOk, IfSome, if◌then◌else◌};
 ghost use Rattle.std.specs.Option.{option_copied, option_map};
 ghost use Rattle.statements.specs.Spelling.{is_name, named};
-ghost use Rattle.statements.specs.Numbers as numbers;
 ghost use Rattle.statements.specs.Operands as spec;
 
 use crate::error::LineError;

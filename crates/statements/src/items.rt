@@ -20,7 +20,7 @@ pub enum Width {
 pub enum Item<'a> {
     /// The address of a label.
     Label(Name<'a>),
-    /// A number, in 32 bits, of which as many of the lowest are taken as the item has.
+    /// A number of 32 bits: as many of the lowest are taken as the item has.
     Number(u32),
 }
 

@@ -24,13 +24,13 @@ pub fn form_is_no_error()
 {}
 
 /// The disassembly of an instruction at an address is read as its statement: as the instruction itself, as a
-/// jump or a branch to the address that it goes to, or, for a FENCE that no statement of its own stands
-/// for, as data with its word.
+/// jump or a branch to the address that it goes to, or, for a FENCE without a statement of its own,
+/// as data with its word.
 pub fn texts_are_read()
     ensures { TextsAreRead }
 {}
 
-/// A pseudo-instruction is read as the instruction that it stands for, whatever its operands are: registers
+/// A pseudo-instruction is read as the instruction that it means, whatever its operands are: registers
 /// by any of their names, labels, numbers, or others that are spelled without blanks. `la`, `call` and
 /// `li` say what they are of a register, a label and a number.
 pub fn pseudo_instructions_stand_for_others()

@@ -32,7 +32,7 @@ pub(crate) enum Fixed {
     Ebreak,
 }
 
-/// What a mnemonic or a directive's name stands for, by the operands that it takes.
+/// What a mnemonic or a directive's name means, by the operands that it takes.
 #[derive(Clone, Copy, Debug, PartialEq, Eq)]
 pub(crate) enum Mnemonic {
     /// `op rd, rs1, rs2`.

@@ -87,7 +87,7 @@ pub enum Statement<'a> {
         /// The items.
         items: Items<'a>,
     },
-    /// So many zero bytes.
+    /// This many zero bytes.
     Space(u32),
     /// Zero bytes up to a multiple of this power of 2.
     Align(u32),

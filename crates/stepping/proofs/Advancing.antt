@@ -1,10 +1,8 @@
 -- Moves at which an instruction retires, and ticks: they are the same, and a machine has one.
-use Rattle.std.proofs.Common.{◌≡◌, ℕ, zero, suc, ◌<◌, Bool, true, false, List, Option, None, Some, Result, Ok, Err, IsTrue, is_ok, eqb, Decides, bytes_eq, MatchResult, refl, sym, ap, subst, ◌∙◌, arith}
-use Rattle.stepping.proofs.Common.{Advances, After, AllocError, Answers, Debugged, Decides-eqb, Effect, effect_of, Encodes, entered, fetch_fault, gone_on, has_retired, Illegal, Instr, IsFetched, IsIllegal, IsMove, KeepsMachine, Machine, machine_of, MemFault, moved_as, Moves, not_from_Decides, one_move, settled, stayed, step_keeps, Stepped, tick_of, trapped, word_at}
+use Rattle.stepping.proofs.Common.{Advances, After, AllocError, Answers, ap, arith, Bool, Break as Breakpoint, bytes_eq, Debugged, Decides, Decides-eqb, EachTickAnswers, Effect, effect_of, Encodes, entered, eqb, Err, Exit, false, fetch_fault, gone_on, has_retired, Illegal, Instr, IsFetched, IsIllegal, IsMove, IsTrue, KeepsMachine, List, Machine, machine_of, MatchResult, MemFault, moved_as, Moves, None, not_from_Decides, Ok, one_move, Option, Printed, refl, Result, Retired, settled, Some, stayed, step_keeps, Stepped, subst, suc, sym, tick_of, Trap, trapped, true, word_at, zero, ℕ, ◌<◌, ◌∙◌, ◌≡◌}
+use Rattle.std.proofs.Common.{is_ok}
 use Rattle.std.proofs.lemmas.Slice.Eq.{bytes_eq-Decides}
 use Rattle.image.specs.declared.fault.MemFault.TheVariants as fault
-use Rattle.rv32i.specs.declared.stepped.Stepped.TheVariants.{Retired, Printed, Break as Breakpoint, Exit, Trap}
-use Rattle.stepping.specs.RunLaws.{EachTickAnswers}
 use Rattle.stepping.proofs.Cases.{by_tick}
 use Rattle.stepping.proofs.Determined.{harts_equal, one_settled}
 use Rattle.stepping.proofs.Moving.{decoded_is_fetched}
@@ -33,11 +31,9 @@ each_tick_answers before after answer t =
 retires_settled : (s : Stepped) (instr : Instr) (before after : Debugged) → IsTrue (has_retired s)
     → after ≡ gone_on (Some instr) before (moved_as before after)
     → after ≡ settled s (Some instr) before (moved_as before after)
-retires_settled Retired instr before after r e = e
-retires_settled (Printed number) instr before after r e = e
-retires_settled Breakpoint instr before after r e = e
 retires_settled (Exit code) instr before after r e = let never : false ≡ true = r in cc
 retires_settled (Trap cause) instr before after r e = let never : false ≡ true = r in cc
+retires_settled _ instr before after r e = e
 
 pub advance_moves : (before after : Debugged) → (a : Advances before after)
     → Moves before (Ok (tick_of a.answer (Some a.instr) before.hart.pc (moved_as before after))) after
@@ -55,11 +51,9 @@ advance_equal before after other a b = (one_settled before after other _ _ (adva
 -- ---- and the other way
 
 retired_goes_not : (s : Stepped) → IsTrue (has_retired s) → GoesOn (Ok s) → ⊥
-retired_goes_not Retired r g = g
-retired_goes_not (Printed number) r g = g
-retired_goes_not Breakpoint r g = g
 retired_goes_not (Exit code) r g = let never : false ≡ true = r in cc
 retired_goes_not (Trap cause) r g = let never : false ≡ true = r in cc
+retired_goes_not _ r g = g
 
 abbrev just : Instr → Option Instr
 just instr = Some instr
@@ -75,11 +69,9 @@ fetched_is_decoded m instr f = go (word_at m.memory m.pc) refl f where
 settled_retires : (s : Stepped) (instr : Instr) (before after : Debugged) → IsTrue (has_retired s)
     → after ≡ settled s (Some instr) before (moved_as before after)
     → after ≡ gone_on (Some instr) before (moved_as before after)
-settled_retires Retired instr before after r e = e
-settled_retires (Printed number) instr before after r e = e
-settled_retires Breakpoint instr before after r e = e
 settled_retires (Exit code) instr before after r e = let never : false ≡ true = r in cc
 settled_retires (Trap cause) instr before after r e = let never : false ≡ true = r in cc
+settled_retires _ instr before after r e = e
 
 pub advances_so : (before after : Debugged) (instr : Option Instr) (s : Stepped) → IsFetched (machine_of before.hart before.memory) instr
     → IsMove (machine_of before.hart before.memory) (record { answer = Ok s; machine = machine_of after.hart after.memory })
@@ -121,11 +113,9 @@ machines_equal a b n =
     ap (λ q. machine q a.x a.memory) p ∙ ap (λ q. machine b.pc q a.memory) x ∙ ap (λ q. machine b.pc b.x q) l
 
 kept : (s : Stepped) (before after : Machine) → has_retired s ≡ false → KeepsMachine (Ok s) before after → after ≡ before
-kept Retired before after r k = cc
-kept (Printed number) before after r k = cc
-kept Breakpoint before after r k = cc
 kept (Exit code) before after r k = k
 kept (Trap cause) before after r k = k
+kept _ before after r k = cc
 
 fetch_keeps : (f : MemFault) (m : Machine) → (fetch_fault f m).machine ≡ m
 fetch_keeps fault.Misaligned m = refl
@@ -155,7 +145,7 @@ stays_so before after s r m e =
     e ∙ ap (λ h. stayed (record before { hart = h; memory = after.memory })) hart
     ∙ ap (λ l. stayed (record before { hart = before.hart; memory = l })) memory
 
--- ---- the machine after so many moves
+-- ---- the machine after a number of moves
 
 entered_if : (start : Debugged) (due : Bool) → start.check_due ≡ due → (entered start).check_due ≡ false
 entered_if start true e = rw e refl

@@ -1,14 +1,8 @@
--- Instructions in a row are ticks of which there is nothing to report.
-use Rattle.std.proofs.Common.{◌≡◌, ℕ, zero, suc, ◌+◌, ◌<◌, ◌≤◌, ◌^◌, Bool, true, false, cond, List, [], ◌∷◌, Some, None, Result, Ok, refl, sym, ap, subst, ◌∙◌, arith, add-one}
-use Rattle.stepping.proofs.Common.{AllocError, Burst, BurstEnd, course_of, Debugged, Goes, Halt, HasMoved, Instr, IsTick, Lists, Outcome, plain_tick, position_of, seen, Tick, turns_back, with_check}
+-- Instructions in a row are ticks with nothing to report.
+use Rattle.stepping.proofs.Common.{[], add-one, AllocError, ap, arith, Bool, Burst, BurstEnd, Bursts, cond, Course, course_of, Debugged, Ends, EndsBurst, false, Goes, GoesOn, Halt, Halts, HasMoved, Instr, IsFar, IsOutOfReach, IsTick, Kept, List, Lists, machine_at, moved_by, None, noted, Ok, Outcome, plain_tick, Position, position_at, position_of, refl, Result, Retire, Retired, Retires, seen, Some, subst, suc, sym, Tick, true, turns_back, with_check, with_marks, zero, ℕ, ◌+◌, ◌<◌, ◌^◌, ◌∙◌, ◌∷◌, ◌≡◌, ◌≤◌}
 use Rattle.rv32i.specs.declared.instr.Instr.TheVariants.{Jal, Jalr}
-use Rattle.rv32i.specs.declared.stepped.Stepped.TheVariants.{Retired}
-use Rattle.course.specs.Calls.{Kept, noted, with_marks}
 use Rattle.course.specs.Marks.{is_link, jalr_marks}
 use Rattle.course.specs.Marks.Mark.{Push}
-use Rattle.course.specs.Positions.{Course, GoesOn, Halts, Position, Retires, machine_at, position_at}
-use Rattle.stepping.specs.Bursts.{Bursts, Ends, EndsBurst, IsFar, Retire, moved_by}
-use Rattle.stepping.specs.Running.{IsOutOfReach}
 use Rattle.stepping.specs.declared.burst.BurstEnd.TheVariants.{Spent, Near, Halted}
 use Rattle.stepping.proofs.Cases.{tick_of_move}
 use Rattle.stepping.proofs.Moving.{decoded_is_fetched}
@@ -48,7 +42,7 @@ abbrev ids_after : ℕ → List ℕ → List ℕ
 ids_after zero ids = ids
 ids_after (suc n) ids = []
 
--- so many have retired since, its program stands there, and its hart is at this pc
+-- this many more have retired, its program stands there, and its hart is at this pc
 abbrev pub midway : ℕ → ℕ → Course → Debugged → Debugged
 midway n pc c d = record d {
   hart = record c.now.hart { pc = pc };
@@ -190,7 +184,7 @@ arrived_by : (n pc : ℕ) (p there : Course) (lists : Lists) (d : Debugged) → 
 arrived_by n pc p there lists d e f =
     ap (λ (x : Course). arrived n x lists d) e ∙ ap (λ (l : Lists). arrived n (record p { now = position_at pc p.now }) l d) f
 
--- no ids and no logs are lent where some have retired, and else those of before
+-- no ids and no logs are lent where some have retired, and else the earlier ones
 pub arrives_some : (n pc : ℕ) (p there : Course) (lists : Lists) (d : Debugged) → 0 < n
     → there ≡ record p { now = position_at pc p.now } → lists ≡ record d.lists { ids = []; logs = [] }
     → arrived n there lists d ≡ midway n pc p d

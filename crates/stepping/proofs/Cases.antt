@@ -1,7 +1,5 @@
 -- A tick is the check at the entry, where that is due; and else a move that is undone, where the run goes back, or a move.
-use Rattle.std.proofs.Common.{◌≡◌, Bool, true, false, Result, MatchBool, refl, sym, ◌∙◌, subst}
-use Rattle.stepping.proofs.Common.{AllocError, Tick, turns_back}
-use Rattle.stepping.specs.Ticks.{Comes, Debugged, IsTick, Moves, back_tick, entry_checked, entry_tick, gone_back}
+use Rattle.stepping.proofs.Common.{AllocError, back_tick, Bool, Comes, Debugged, entry_checked, entry_tick, false, gone_back, IsTick, MatchBool, Moves, refl, Result, subst, sym, Tick, true, turns_back, ◌∙◌, ◌≡◌}
 
 abbrev pub Enters : Debugged → Result Tick AllocError → Debugged → Type 0
 Enters before answer after = Comes (entry_tick before) (entry_checked before) answer after

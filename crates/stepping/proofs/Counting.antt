@@ -1,8 +1,6 @@
 -- How many instructions have retired: before each of the recorded moves no more calls were open than had retired then.
-use Rattle.stepping.proofs.Common.{[], ap, arith, Burst, BurstEnd, Bursts, EndsBurst, Err, Kept, length, List, Lists, moved_by, Ok, refl, Result, Retire, slice_get, Some, Stepped, subst, suc, sym, take, zero, ℕ, ◌+◌, ◌-◌, ◌<◌, ◌∷◌, ◌≡◌, ◌≤◌}
-use Rattle.rv32i.specs.declared.stepped.Stepped.TheVariants.{Retired, Printed, Break, Exit, Trap}
-use Rattle.course.specs.Positions.{Course, GoesOn, Position, gone_back, past_after, past_left, position_at, recorded, undone_to}
-use Rattle.stepping.specs.Running.{AreCounted, counted_by}
+use Rattle.stepping.proofs.Common.{[], ap, AreCounted, arith, Break, Burst, BurstEnd, Bursts, counted_by, Course, EndsBurst, Err, Exit, GoesOn, Kept, length, List, Lists, moved_by, Ok, past_after, past_left, Position, position_at, Printed, recorded, refl, Result, Retire, Retired, slice_get, Some, Stepped, subst, suc, sym, take, Trap, undone_to, zero, ℕ, ◌+◌, ◌-◌, ◌<◌, ◌∷◌, ◌≡◌, ◌≤◌}
+use Rattle.course.specs.Positions.{gone_back}
 use Rattle.stepping.specs.declared.burst.BurstEnd.TheVariants.{Spent, Near, Halted}
 use Rattle.stepping.proofs.Bursting.{retires_deeper}
 

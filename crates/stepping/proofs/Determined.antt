@@ -1,10 +1,8 @@
 -- A machine has one tick. Its move is the only one, so the hart after it is known by pc and registers, and all else that
 -- a tick answers and leaves follows.
-use Rattle.stepping.proofs.Common.{AllocError, ap, Debugged, Effect, Err, Hart, Instr, IsDecoding, IsFetched, List, Machine, machine_of, MemFault, moved_as, Moves, None, Ok, one_instruction, one_move, Option, refl, Result, settled, Settles, Some, Stepped, subst, sym, Tick, tick_of, word_at, ℕ, ◌∙◌, ◌≡◌}
+use Rattle.stepping.proofs.Common.{AllocError, ap, Debugged, Effect, Err, Hart, Instr, IsDecoding, IsFetched, List, Machine, machine_of, MemFault, moved_as, Moves, None, Ok, one_instruction, one_move, Option, refl, Result, settled, Settles, slice_index, Some, Stepped, subst, sym, Tick, tick_of, TickIsDeterministic, word_at, ℕ, ◌∙◌, ◌≡◌}
 use Rattle.std.proofs.Math.Nat.{ℕ_set}
-use Rattle.std.specs.Prelude.{slice_index}
 use Rattle.std.specs.Result.{MatchResult}
-use Rattle.stepping.specs.RunLaws.{TickIsDeterministic}
 use Rattle.stepping.proofs.Cases.{back_of, by_tick, entry_of, move_of}
 
 -- ---- harts with the same pc and registers are equal: that x0 is 0 is a fact

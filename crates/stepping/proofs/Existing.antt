@@ -1,11 +1,7 @@
 -- Each machine has a tick.
-use Rattle.stepping.proofs.Common.{AllocError, ap, Bool, Effect, Err, false, Hart, Instr, IsFetched, IsMove, Machine, machine_of, MemFault, None, Ok, Option, refl, Result, Stepped, subst, sym, true, turns_back, word_at, ℕ, ◌∙◌, ◌≡◌}
-use Rattle.std.specs.Prelude.{is_ok}
+use Rattle.stepping.proofs.Common.{AllocError, ap, back_tick, Bool, Break, Debugged, Effect, entry_checked, entry_tick, Err, Exit, false, gone_back, Hart, HasTick, Instr, is_ok, IsFetched, IsMove, Machine, machine_of, MemFault, moved_as, None, Ok, Option, Printed, refl, Result, Retired, settled, Stepped, subst, sym, tick_of, Trap, true, turns_back, word_at, ℕ, ◌∙◌, ◌≡◌}
 use Rattle.rv32i.specs.Laws.{HasMove}
-use Rattle.rv32i.specs.declared.stepped.Stepped.TheVariants.{Retired, Printed, Break, Exit, Trap}
 use Rattle.rv32i.proofs.Moving.{moves_answer, the_decoding, the_move}
-use Rattle.stepping.specs.RunLaws.{HasTick}
-use Rattle.stepping.specs.Ticks.{Debugged, back_tick, entry_checked, entry_tick, gone_back, moved_as, settled, tick_of}
 use Rattle.stepping.proofs.Cases.{tick_of_back, tick_of_entry, tick_of_move}
 
 -- what it fetches
@@ -23,10 +19,7 @@ fetches m = by_word (word_at m.memory m.pc) refl where
 same_machine : (stepped : Stepped) (instr : Option Instr) (before middle : Debugged) → moved_as before middle ≡ middle
     → moved_as before (settled stepped instr before middle) ≡ middle
 same_machine Retired instr before middle e = e
-same_machine (Printed number) instr before middle e = e
-same_machine Break instr before middle e = e
-same_machine (Exit code) instr before middle e = e
-same_machine (Trap cause) instr before middle e = e
+same_machine _ instr before middle e = e
 
 abbrev effect_with : Result Stepped AllocError → Machine → Effect
 effect_with answer machine = record { answer = answer; machine = machine }

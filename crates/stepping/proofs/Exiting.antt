@@ -1,12 +1,7 @@
 -- A program ends with a code of 32 bits.
-use Rattle.stepping.proofs.Common.{[], AllocError, Back, Bool, false, Go, Hit, In, Instr, List, machine_of, Ok, Option, Out, Outcome, Over, Position, Result, ReverseGo, standing_in, Stepped, subst, sym, Tick, true, turns_back, ℕ, ◌∷◌, ◌≡◌}
+use Rattle.stepping.proofs.Common.{[], AllocError, Back, back_outcome, back_tick, Bool, Break, Debugged, EndsWithCodes, entry_tick, Exit, false, Go, Goal, HasSignedCode, Hit, hit_at_pc, In, Instr, List, machine_of, moved_as, Moves, Ok, Option, Out, Outcome, outcome_of, outcome_or, Over, Position, Printed, Result, Retired, ReverseGo, Settles, standing_in, Stepped, Stopped, subst, sym, Tick, tick_of, Trap, true, turns_back, undone, unless_start, Went, ℕ, ◌∷◌, ◌≡◌}
 use Rattle.rv32i.specs.Laws.{HasCode}
-use Rattle.rv32i.specs.declared.stepped.Stepped.TheVariants.{Retired, Printed, Break, Exit, Trap}
 use Rattle.rv32i.proofs.Codes.{exit_codes_are_words}
-use Rattle.stepping.specs.RunLaws.{EndsWithCodes, HasSignedCode}
-use Rattle.stepping.specs.Ticks.{Debugged, Moves, Settles, back_outcome, back_tick, entry_tick, hit_at_pc, moved_as, outcome_of, outcome_or, tick_of, undone, unless_start}
-use Rattle.stepping.specs.declared.goal.Goal.{Goal}
-use Rattle.stepping.specs.declared.tick.Outcome.TheVariants.{Went, Stopped}
 use Rattle.stepping.specs.declared.tick.Reason.TheVariants as why
 use Rattle.stepping.proofs.Cases.{Enters, GoesBack, by_tick}
 
@@ -30,12 +25,8 @@ none_left [] = tt
 none_left (before ∷ past) = tt
 
 no_end_back : (g : Goal) (d : Debugged) → HasSignedCode (back_outcome g d)
-no_end_back Go d = tt
-no_end_back (In granularity) d = tt
-no_end_back (Over granularity) d = tt
-no_end_back (Out granularity) d = tt
-no_end_back Back d = tt
 no_end_back ReverseGo d = no_end_or (standing_in d.hart.pc d.hart d.memory d.lists) (unless_start d.past) (none_left d.past)
+no_end_back _ d = tt
 
 of_stepped : (stepped : Stepped) (instr : Option Instr) (pc : ℕ) (d : Debugged) → HasCode (Ok stepped)
     → HasSignedCode (tick_of stepped instr pc d).outcome

@@ -1,11 +1,5 @@
 -- The ticks of a run, and how it ends with one.
-use Rattle.stepping.proofs.Common.{[], add-one, AllocError, ap, arith, Back, Go, In, List, None, Ok, Option, Out, Over, plain_tick, Position, refl, Result, ReverseGo, RunEnd, Some, Stepped, subst, suc, sym, Tick, true, zero, ℕ, ◌+◌, ◌-◌, ◌<◌, ◌∙◌, ◌∷◌, ◌≡◌, ◌≤◌}
-use Rattle.rv32i.specs.declared.stepped.Stepped.TheVariants.{Retired, Printed, Break, Exit, Trap}
-use Rattle.stepping.specs.Bursts.{EndsHalted, stretch_of}
-use Rattle.stepping.specs.Running.{IsEnding, Stretches}
-use Rattle.stepping.specs.Runs.{EndsRun, Goes, HasMoved, IsRun, MayLackMemory}
-use Rattle.stepping.specs.Ticks.{Debugged, IsTick, Moves, Settles, entry_checked, entry_tick, gone_back, looked_at, seen, undone_by, with_check}
-use Rattle.stepping.specs.declared.goal.Goal.{Goal}
+use Rattle.stepping.proofs.Common.{[], add-one, AllocError, ap, arith, Back, Break, Debugged, EndsHalted, EndsRun, entry_checked, entry_tick, Exit, Go, Goal, Goes, gone_back, HasMoved, In, IsEnding, IsRun, IsTick, List, looked_at, MayLackMemory, Moves, None, Ok, Option, Out, Over, plain_tick, Position, Printed, refl, Result, Retired, ReverseGo, RunEnd, seen, Settles, Some, Stepped, stretch_of, Stretches, subst, suc, sym, Tick, Trap, true, undone_by, with_check, zero, ℕ, ◌+◌, ◌-◌, ◌<◌, ◌∙◌, ◌∷◌, ◌≡◌, ◌≤◌}
 use Rattle.stepping.specs.declared.tick.Ran.{Ran}
 use Rattle.stepping.specs.declared.tick.RunEnd.TheVariants.{Spent, Ticked, NoMemory}
 use Rattle.stepping.proofs.Cases.{by_tick}
@@ -98,7 +92,7 @@ pub stretch_retires : (most went : ℕ) (before : Debugged) (ending : Option Run
 stretch_retires most went before None after s = omega (arith, goes_retire went before after s.1.1, s.1.0)
 stretch_retires most went before (Some ending) after s = run_retires most before (record { went = went; ending = ending }) after s
 
--- one more tick, after which a run ends so, or goes on
+-- one more tick, after which a run ends in this way, or continues
 pub one_more : (most went : ℕ) (before middle after : Debugged) (tick : Tick) (ending : Option RunEnd) → went < most
     → Goes went before middle → IsTick middle (Ok tick) after → IsEnding tick after ending
     → Stretches most before (stretch_of went ending).went (stretch_of went ending).ending after
@@ -189,7 +183,7 @@ one_lacks before after ran e h =
     let at : h.middle ≡ before = subst (λ (k : ℕ). Goes k before h.middle) none h.goes in
     (ends.1.0 ∙ at, subst MayLackMemory at ends.1.1)
 
--- that goes on
+-- that continues
 pub one_spent : (before after : Debugged) (ran : Ran) → ran.ending ≡ Spent → IsRun 1 before ran after → IsTick before (Ok plain_tick) after
 one_spent before after ran e h =
     let ends : EndsRun 1 ran.went Spent h.middle after = subst (λ (x : RunEnd). EndsRun 1 ran.went x h.middle after) e h.ends in

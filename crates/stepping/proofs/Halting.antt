@@ -1,13 +1,8 @@
 -- An instruction that halts ends a run.
-use Rattle.stepping.proofs.Common.{[], AllocError, ap, arith, Bool, cond, course_of, Debugged, eqb, Err, false, Halt, Halts, IsFetched, IsTick, List, MayLackMemory, None, Ok, past_after, plain_tick, position_of, refl, Result, settled, Some, stayed, Stepped, subst, sym, Tick, tick_of, true, turns_back, ℕ, ◌+◌, ◌∙◌, ◌≡◌, ◌≢◌}
-use Rattle.std.specs.Prelude.{alloc_error}
-use Rattle.rv32i.specs.Machine.{Effect, IsMove, Machine, calls, machine_of, signed, sum, trapped, value}
+use Rattle.stepping.proofs.Common.{[], alloc_error, AllocError, ap, arith, Bool, Break, calls, cond, counted_by, course_of, Debugged, Effect, eqb, Err, Exit, false, Halt, Halts, IsFetched, IsMove, IsTick, left_by, List, Machine, machine_of, MayLackMemory, None, Ok, past_after, plain_tick, position_of, Printed, refl, Result, Retired, settled, signed, Some, stayed, Stepped, subst, sum, sym, Tick, tick_of, Trap, trapped, true, turns_back, UnknownCall, value, ℕ, ◌+◌, ◌∙◌, ◌≡◌, ◌≢◌}
 use Rattle.rv32i.specs.Steps.{settles}
 use Rattle.rv32i.specs.declared.instr.Instr.TheVariants.{Ecall, Ebreak}
 use Rattle.rv32i.specs.declared.performing.Halt.TheVariants.{Stopped, NoMemory, Calls, Breaks}
-use Rattle.rv32i.specs.declared.stepped.Cause.TheVariants.{UnknownCall}
-use Rattle.rv32i.specs.declared.stepped.Stepped.TheVariants.{Retired, Printed, Break, Exit, Trap}
-use Rattle.stepping.specs.Running.{counted_by, left_by}
 use Rattle.stepping.proofs.Cases.{tick_of_move}
 use Rattle.stepping.proofs.Moving.{settled_moves}
 
@@ -34,10 +29,7 @@ left_settled (Trap cause) d pc =
 
 pub tick_counted : (s : Stepped) (d : Debugged) (pc : ℕ) → tick_of s None 0 (counted_at s d pc) ≡ tick_of s None 0 (at_pc d pc)
 tick_counted Retired d pc = refl
-tick_counted (Printed number) d pc = refl
-tick_counted Break d pc = refl
-tick_counted (Exit code) d pc = refl
-tick_counted (Trap cause) d pc = refl
+tick_counted _ d pc = refl
 
 -- ---- an environment call
 

@@ -1,12 +1,10 @@
 -- The past leads to where the machine is, and one that is undone is one less.
-use Rattle.std.proofs.Common.{◌≡◌, ℕ, zero, suc, ◌+◌, ◌-◌, ◌≤◌, Bool, true, false, List, [], ◌∷◌, length, take, Option, Some, None, Result, Ok, Err, MatchResult, refl, sym, ap, ◌∙◌, subst, arith}
-use Rattle.stepping.proofs.Common.{AllocError, Back, course_of, Debugged, Effect, effect_of, Encodes, fetch_fault, Go, gone_on, has_retired, Illegal, In, Instr, IsDecodedAtPc, IsDecoding, IsIllegal, IsMove, KeepsMachine, looked_at, Machine, machine_of, MemFault, moved_as, Moves, noted, one_instruction, one_move, Out, Over, position_of, ReverseGo, settled, stayed, step_keeps, Stepped, Tick, trapped, undone_by, word_at}
+use Rattle.stepping.proofs.Common.{[], AllocError, ap, arith, Back, Bool, Course, course_of, Debugged, Effect, effect_of, Encodes, Err, false, fetch_fault, Go, Goal, gone_on, has_retired, Illegal, In, Instr, IsDecodedAtPc, IsDecoding, IsFetched, IsIllegal, IsMove, KeepsMachine, length, List, looked_at, Machine, machine_of, MatchResult, MemFault, moved_as, Moves, None, noted, Ok, one_instruction, one_move, Option, Out, Over, Position, position_of, refl, Result, ReverseGo, settled, Some, stayed, step_keeps, Stepped, subst, suc, sym, take, Tick, trapped, true, undone_by, undone_to, word_at, zero, ℕ, ◌+◌, ◌-◌, ◌∙◌, ◌∷◌, ◌≡◌, ◌≤◌}
 use Rattle.image.specs.declared.fault.MemFault.TheVariants as fault
 use Rattle.rv32i.specs.declared.stepped.Stepped.TheVariants as stepped
-use Rattle.course.specs.Positions.{Course, IsFetched, Position, gone_back, undone_to}
+use Rattle.course.specs.Positions.{gone_back}
 use Rattle.course.proofs.Moving.{harts_equal}
 use Rattle.stepping.specs.Leading.{BackAndForth, LeadTo, Makes, MovesFromOldest, MovesTo, OneLess, PastLeads, TicksLead, back, oldest, oldest_of}
-use Rattle.stepping.specs.declared.goal.Goal.{Goal}
 use Rattle.stepping.proofs.Cases.{back_of, by_tick}
 
 -- ---- a position makes one move
@@ -43,11 +41,7 @@ shorter (suc n) (b ∷ past) now h = (h.0, shorter n past b h.1)
 
 looked_run : (g : Goal) (d : Debugged) → PastLeads (course_of d) → PastLeads (course_of (looked_at g d))
 looked_run Go d h = h
-looked_run (In granularity) d h = h
-looked_run (Over granularity) d h = h
-looked_run (Out granularity) d h = h
-looked_run Back d h = h
-looked_run ReverseGo d h = h
+looked_run _ d h = h
 
 undone_run : (past : List Position) (d : Debugged) → LeadTo past (position_of d) → PastLeads (course_of d)
     → PastLeads (course_of (undone_by past d))
@@ -196,11 +190,7 @@ undone_leads c h = back_by c.past c h h
 
 looked_course : (g : Goal) (d : Debugged) → course_of (looked_at g d) ≡ course_of d
 looked_course Go d = refl
-looked_course (In granularity) d = refl
-looked_course (Over granularity) d = refl
-looked_course (Out granularity) d = refl
-looked_course Back d = refl
-looked_course ReverseGo d = refl
+looked_course _ d = refl
 
 undone_course : (past : List Position) (d : Debugged) → d.past ≡ past → course_of (undone_by past d) ≡ undone_to past (course_of d)
 undone_course [] d e = refl

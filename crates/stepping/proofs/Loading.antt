@@ -1,9 +1,6 @@
 -- One machine is as an image says.
-use Rattle.stepping.proofs.Common.{[], Debugged, false, Go, Lists, refl, subst, sym, ℕ, ◌+◌, ◌≡◌}
-use Rattle.std.specs.Prelude.{replicate}
-use Rattle.image.specs.Memory.{first_address, with_bytes}
+use Rattle.stepping.proofs.Common.{[], Debugged, false, first_address, Go, Lists, nothing_kept, refl, replicate, subst, sym, with_bytes, ℕ, ◌+◌, ◌≡◌}
 use Rattle.image.specs.declared.Image.{Image}
-use Rattle.course.specs.Calls.{nothing_kept}
 use Rattle.stepping.specs.Loading.{IsLoaded, loaded, LabelsAreNotLoaded, not_hit, OneIsLoaded, OneIsReloaded, started}
 use Rattle.stepping.proofs.Determined.{harts_equal}
 

@@ -1,8 +1,7 @@
 -- Where no breakpoint is at pc and the goal is out of reach, there is nothing to see.
-use Rattle.stepping.proofs.Common.{ap, Bool, Debugged, false, Hit, is_met, Lists, outcome_of, ◌∙◌, ◌≡◌}
+use Rattle.stepping.proofs.Common.{ap, Bool, Debugged, false, Hit, is_met, IsQuiet, Lists, outcome_of, ◌∙◌, ◌≡◌}
 use Rattle.breakpoints.specs.Places.{is_among}
 use Rattle.breakpoints.proofs.Lists.{no_check, no_hit}
-use Rattle.stepping.specs.Running.{IsQuiet}
 
 pub quiet : (d : Debugged) → is_among d.hart.pc d.lists.source d.lists.instructions d.lists.functions ≡ false
     → is_met d.goal d.start d.table d.hart.pc d.calls.depth ≡ false → IsQuiet d

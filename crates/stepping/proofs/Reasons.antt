@@ -1,10 +1,6 @@
--- What one tick after the entry says: it goes on where no reason applies, and else gives the first.
-use Rattle.stepping.proofs.Common.{AllocError, ap, arith, Bool, Err, false, is_met, IsMove, IsTrue, list_any, machine_of, Ok, Outcome, refl, Result, Stepped, stops, subst, sym, Tick, true, ℕ, ◌∙◌, ◌≡◌, ◌≤◌}
-use Rattle.rv32i.specs.declared.stepped.Stepped.TheVariants.{Retired, Printed, Break, Exit, Trap}
-use Rattle.stepping.specs.Stopping.{Advances, Answers, Applies, MeetsFunction, MeetsGoal, MeetsInstruction, MeetsSource, OneStops, has_retired, place}
-use Rattle.stepping.specs.Ticks.{Debugged, Moves, Settles, gone_on, meets_goal, moved_as, outcome_of, settled, stayed, went_on}
-use Rattle.stepping.specs.declared.tick.Outcome.TheVariants.{Went, Stopped, Ended}
-use Rattle.stepping.specs.declared.tick.Reason.TheVariants.{Exception, Ebreak, Source, Instruction, Function, Goal, Start}
+-- What one tick after the entry says: it continues where no reason applies, and else gives the first.
+use Rattle.stepping.proofs.Common.{Advances, AllocError, Answers, ap, Applies, arith, Bool, Break, Debugged, Ebreak, Ended, Err, Exception, Exit, false, Function, gone_on, has_retired, Instruction, is_met, IsMove, IsTrue, list_any, machine_of, meets_goal, MeetsFunction, MeetsGoal, MeetsInstruction, MeetsSource, moved_as, Moves, Ok, OneStops, Outcome, outcome_of, place, Printed, refl, Result, Retired, settled, Settles, Source, Start, stayed, Stepped, Stopped, stops, subst, sym, Tick, Trap, true, Went, went_on, ℕ, ◌∙◌, ◌≡◌, ◌≤◌}
+use Rattle.stepping.specs.declared.tick.Reason.TheVariants.{Goal}
 use Rattle.stepping.proofs.Advancing.{advance_answers, advance_equal, advances_so, answers_equal, stays_so}
 
 -- the first reason at an instruction

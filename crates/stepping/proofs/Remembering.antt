@@ -1,14 +1,10 @@
 -- A tick adds to the past what retires in it, or takes away what it undoes.
-use Rattle.std.proofs.Common.{◌≡◌, ℕ, zero, suc, ◌+◌, ◌⊎◌, inl, inr, List, [], ◌∷◌, ◌++◌, length, take, Option, None, Some, Result, Ok, Err, refl, sym, ap, subst, ◌∙◌, arith, length-append}
-use Rattle.std.specs.Prelude.{⊤, ℤ}
+use Rattle.stepping.proofs.Common.{[], AllocError, ap, arith, Back, Debugged, Effect, effect_of, Encodes, Err, fetch_fault, Go, Goal, gone_on, Illegal, In, inl, inr, Instr, IsDecoding, IsFetched, IsIllegal, IsMove, Kept, length, length-append, List, looked_at, Machine, machine_of, MemFault, moved_as, Moves, None, Ok, Option, Out, Over, Position, position_of, refl, Result, ReverseGo, Settles, Some, StandsFor, stayed, Stepped, subst, suc, sym, take, Tick, trapped, undone_by, with_retired, word_at, zero, ℕ, ℤ, ⊤, ◌++◌, ◌+◌, ◌∙◌, ◌∷◌, ◌≡◌, ◌⊎◌}
 use Rattle.std.specs.Result.{MatchResult}
-use Rattle.stepping.proofs.Common.{AllocError, Back, Debugged, Effect, effect_of, Encodes, fetch_fault, Go, gone_on, Illegal, In, Instr, IsDecoding, IsFetched, IsIllegal, IsMove, looked_at, Machine, machine_of, MemFault, moved_as, Moves, Out, Over, Position, position_of, ReverseGo, Settles, stayed, Stepped, Tick, trapped, undone_by, word_at}
 use Rattle.image.specs.declared.fault.MemFault.TheVariants as fault
 use Rattle.rv32i.specs.declared.stepped.Stepped.TheVariants as stepped
-use Rattle.course.specs.Calls.{Kept, StandsFor, with_retired}
 use Rattle.course.specs.Marks.{Retired}
 use Rattle.stepping.specs.Past.{IsChanged, LoadedRemembersNone, Remembers, RemembersPast, TicksRemember}
-use Rattle.stepping.specs.declared.goal.Goal.{Goal}
 use Rattle.course.proofs.Standing.{noted_stands, nothing_stands}
 use Rattle.stepping.proofs.Cases.{by_tick}
 
@@ -122,11 +118,7 @@ moved_on before after answer retired h m = go m.stepped m.moved m.settles where
 -- a move is undone
 looked_alike : (g : Goal) (d : Debugged) → Alike d (looked_at g d)
 looked_alike Go d = record { calls = refl; count = refl; past = refl }
-looked_alike (In granularity) d = record { calls = refl; count = refl; past = refl }
-looked_alike (Over granularity) d = record { calls = refl; count = refl; past = refl }
-looked_alike (Out granularity) d = record { calls = refl; count = refl; past = refl }
-looked_alike Back d = record { calls = refl; count = refl; past = refl }
-looked_alike ReverseGo d = record { calls = refl; count = refl; past = refl }
+looked_alike _ d = record { calls = refl; count = refl; past = refl }
 
 went_back : (past : List Position) (before after : Debugged) (retired : List Retired)
     → after ≡ looked_at before.goal (undone_by past before) → RemembersPast past retired → Remembers before retired

@@ -1,10 +1,7 @@
 -- A run back stops at the newest machine of the past at which a breakpoint stands.
-use Rattle.stepping.proofs.Common.{[], ap, arith, back_outcome, back_tick, Bool, cond, Course, course_of, Debugged, false, Hit, length, List, list_any, looked_at, Ok, Outcome, outcome_or, Position, position_of, refl, stands, subst, sym, Tick, true, turns_back, undone_by, unless_start, ◌∙◌, ◌∷◌, ◌≡◌, ◌≤◌}
-use Rattle.std.specs.Prelude.{◌||◌}
+use Rattle.stepping.proofs.Common.{[], ap, arith, back_outcome, back_tick, Bool, cond, Course, course_of, Debugged, Ended, false, Goal, Hit, length, List, list_any, looked_at, Ok, Outcome, outcome_or, Position, position_of, refl, stands, Stopped, subst, sym, Tick, true, turns_back, undone_by, unless_start, Went, ◌||◌, ◌∙◌, ◌∷◌, ◌≡◌, ◌≤◌}
 use Rattle.stepping.specs.StoppingBack.{BackTicksTurn, TurnsTo, one_stands, turned, turned_from}
-use Rattle.stepping.specs.declared.goal.Goal.{Goal}
 use Rattle.stepping.specs.declared.goal.Goal.TheVariants as goal
-use Rattle.stepping.specs.declared.tick.Outcome.TheVariants.{Went, Stopped, Ended}
 use Rattle.stepping.proofs.Cases.{GoesBack, back_of}
 
 abbrev as_before : Position → List Position → Debugged → Debugged

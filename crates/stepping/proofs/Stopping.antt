@@ -1,11 +1,7 @@
 -- A run stops at one number, wherever its moves are counted from.
-use Rattle.std.proofs.Common.{◌≡◌, ◌≢◌, ℕ, zero, suc, ◌+◌, ◌-◌, ◌<◌, ◌≤◌, Bool, true, false, ltb, Decides, refl, sym, ap, subst, ◌∙◌, arith}
-use Rattle.stepping.proofs.Common.{Advances, After, Applies, AppliesAt, AppliesAtEntry, Debugged, entered, Exit, has_retired, NoneBelow, Outcome, place, Reason, StopsAt, Trap, ℤ}
-use Rattle.std.proofs.lemmas.Bool.Decides.{Decides-ltb, not_from_Decides}
+use Rattle.stepping.proofs.Common.{Advances, After, ap, Applies, AppliesAt, AppliesAtEntry, arith, Bool, CountsAnew, Debugged, Decides, Decides-ltb, Ebreak, Ended, entered, Exception, Exit, false, Function, has_retired, Instruction, ltb, MovesEnd, NoneBelow, not_from_Decides, Outcome, place, Reason, refl, Source, Start, StopIsUnique, Stopped, StopsAt, subst, suc, sym, Trap, true, Went, zero, ℕ, ℤ, ◌+◌, ◌-◌, ◌<◌, ◌∙◌, ◌≡◌, ◌≢◌, ◌≤◌}
 use Rattle.rv32i.specs.declared.stepped.Cause.{Cause}
-use Rattle.stepping.specs.RunLaws.{CountsAnew, MovesEnd, StopIsUnique}
-use Rattle.stepping.specs.declared.tick.Outcome.TheVariants.{Went, Stopped, Ended}
-use Rattle.stepping.specs.declared.tick.Reason.TheVariants.{Exception, Ebreak, Source, Instruction, Function, Goal, Start}
+use Rattle.stepping.specs.declared.tick.Reason.TheVariants.{Goal}
 use Rattle.stepping.proofs.Advancing.{Made, advance_answers, after_equal, after_lower, after_ready, answers_equal}
 
 -- what applies at the next instruction, at another machine after as many moves
@@ -17,12 +13,7 @@ applies_here k start before outcome a x = subst (λ (d : Debugged). Applies outc
 
 other_place : (reason : Reason) → (place (Stopped reason) ≢ 2) × (place (Stopped reason) ≢ 9)
 other_place (Exception c) = (λ e. omega (arith, e), λ e. omega (arith, e))
-other_place Ebreak = (λ e. omega (arith, e), λ e. omega (arith, e))
-other_place Source = (λ e. omega (arith, e), λ e. omega (arith, e))
-other_place Instruction = (λ e. omega (arith, e), λ e. omega (arith, e))
-other_place Function = (λ e. omega (arith, e), λ e. omega (arith, e))
-other_place Goal = (λ e. omega (arith, e), λ e. omega (arith, e))
-other_place Start = (λ e. omega (arith, e), λ e. omega (arith, e))
+other_place _ = (λ e. omega (arith, e), λ e. omega (arith, e))
 
 same_reason : (o p : Outcome) → place o ≡ place p → ((c d : Cause) → o ≡ Stopped (Exception c) → p ≡ Stopped (Exception d) → c ≡ d)
     → ((c d : ℤ) → o ≡ Ended c → p ≡ Ended d → c ≡ d) → o ≡ p

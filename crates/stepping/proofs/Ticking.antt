@@ -1,10 +1,7 @@
 -- Ticks stop at the least number at which a reason applies.
-use Rattle.std.proofs.Common.{◌≡◌, ℕ, zero, suc, ◌<◌, ◌≤◌, Bool, true, false, ◌⊎◌, inl, inr, Option, None, Result, Ok, Err, IsOk, List, if◌then◌else◌, eqb, Decides, refl, sym, ap, subst, ◌∙◌, arith}
-use Rattle.stepping.proofs.Common.{After, AllocError, Applies, AppliesAt, AppliesAtEntry, Debugged, Decides-eqb, EndsRun, Goes, IsTick, list_any, NoneBelow, not_from_Decides, Outcome, outcome_of, place, Placed, plain_tick, RunEnd, stops, StopsAt, Tick, turns_back, ℤ}
-use Rattle.stepping.specs.RunLaws.{AnswersWith, EndingSays, GoOn, RunsSayWhere, RunsStopThere, Says, TicksSayWhere, number_after}
+use Rattle.stepping.proofs.Common.{After, AllocError, AnswersWith, ap, Applies, AppliesAt, AppliesAtEntry, arith, Bool, Debugged, Decides, Decides-eqb, Ebreak, Ended, EndingSays, EndsRun, eqb, Err, Exception, false, Function, Goes, GoOn, if◌then◌else◌, inl, inr, Instruction, IsOk, IsTick, List, list_any, None, NoneBelow, not_from_Decides, number_after, Ok, Option, Outcome, outcome_of, place, Placed, plain_tick, refl, Result, RunEnd, RunsSayWhere, RunsStopThere, Says, Source, Start, Stopped, stops, StopsAt, subst, suc, sym, Tick, TicksSayWhere, true, turns_back, Went, zero, ℕ, ℤ, ◌<◌, ◌∙◌, ◌≡◌, ◌≤◌, ◌⊎◌}
 use Rattle.stepping.specs.declared.tick.RunEnd.TheVariants.{Spent, Ticked, NoMemory}
-use Rattle.stepping.specs.declared.tick.Outcome.TheVariants.{Went, Stopped, Ended}
-use Rattle.stepping.specs.declared.tick.Reason.TheVariants.{Exception, Ebreak, Source, Instruction, Function, Goal, Start}
+use Rattle.stepping.specs.declared.tick.Reason.TheVariants.{Goal}
 use Rattle.stepping.proofs.Advancing.{after_goal, after_ready, each_tick_answers}
 use Rattle.stepping.proofs.Cases.{entry_of, move_of}
 use Rattle.stepping.proofs.Reasons.{SaysOnce, one_says}
@@ -12,7 +9,7 @@ use Rattle.stepping.proofs.Stopping.{applies_here, stop_is_unique}
 
 -- ---- the number of a tick after the entry
 
--- the machine after so many moves, where no reason has applied
+-- the machine after `k` moves, where no reason has applied
 abbrev Ready : ℕ → Debugged → Debugged → Type 0
 Ready k start before = NoneBelow (suc k) start × After k start before
 
@@ -150,8 +147,8 @@ entry_says start after tick due t =
 
 -- ---- all ticks
 
--- what so many ticks that went on have left: before the check at the entry where the run began, and after that a
--- machine after so many moves, where no reason has applied
+-- what this many ticks that continued have left: before the check at the entry where the run began, and after that a
+-- machine after that many moves, where no reason has applied
 abbrev ReadyFor : Bool → ℕ → Debugged → Debugged → Type 0
 ReadyFor true zero start before = before ≡ start
 ReadyFor true (suc k) start before = Ready k start before

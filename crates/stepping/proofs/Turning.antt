@@ -1,12 +1,9 @@
 -- Where a run back stops.
-use Rattle.std.proofs.Common.{◌≡◌, ℕ, zero, suc, ◌+◌, ◌≤◌, ◌<◌, Bool, true, false, IsTrue, ◌⊎◌, inl, inr, List, [], ◌∷◌, length, drop, Some, Result, Ok, refl, sym, ap, ◌∙◌, subst, arith}
-use Rattle.stepping.proofs.Common.{AllocError, back_outcome, back_tick, Debugged, GoOn, Hit, IsTick, list_any, looked_at, Outcome, outcome_or, place, Placed, Position, position_of, Reason, slice_get, standing_in, stands, Tick, turns_back, undone_by, unless_start}
+use Rattle.stepping.proofs.Common.{[], AllocError, ap, arith, back_outcome, back_tick, Bool, Debugged, drop, Ended, false, Goal, GoOn, Hit, inl, inr, IsTick, IsTrue, length, List, list_any, looked_at, Ok, Outcome, outcome_or, place, Placed, Position, position_of, Reason, refl, Result, slice_get, Some, standing_in, stands, Stopped, subst, suc, sym, Tick, true, turns_back, undone_by, unless_start, Went, zero, ℕ, ◌+◌, ◌<◌, ◌∙◌, ◌∷◌, ◌≡◌, ◌≤◌, ◌⊎◌}
 use Rattle.std.proofs.Math.Nat.{le-suc_iff}
 use Rattle.std.proofs.lemmas.List.{length-drop}
 use Rattle.stepping.specs.StoppingBack.{AppliesBack, AppliesThere, BackTicksSayWhere, LeavesBack, NoneBackBelow, OneStands, SaysBack, StopsBackAt}
-use Rattle.stepping.specs.declared.goal.Goal.{Goal}
 use Rattle.stepping.specs.declared.goal.Goal.TheVariants as goal
-use Rattle.stepping.specs.declared.tick.Outcome.TheVariants.{Went, Stopped, Ended}
 use Rattle.stepping.specs.declared.tick.Reason.TheVariants as why
 use Rattle.stepping.proofs.Cases.{GoesBack, back_of}
 
@@ -35,7 +32,7 @@ there : (n : ℕ) (start : Debugged) (b : Position) (o : Outcome) → slice_get 
     → AppliesThere start.goal o (suc n) b start
 there n start b o at h = subst (λ (c : Position). AppliesThere start.goal o (suc n) c start) (one_place start.past n b h.0 at h.1.0) h.1.1
 
--- what a run back is stopped by, once so many moves are undone
+-- what a run back is stopped by, once `n` moves are undone
 module _ (n : ℕ) (start : Debugged) (b : Position) where
   abbrev Which : Outcome → Type 0
   Which o = ((o ≡ Stopped why.Source) × OneStands start.lists.source b)
@@ -67,7 +64,7 @@ module _ (n : ℕ) (start : Debugged) (b : Position) where
 
 -- ---- the step
 
--- what is so after so many moves were undone, of a run back that goes on
+-- what holds after `n` moves were undone, of a run back that continues
 record Goes (n : ℕ) (start before : Debugged) : Type 0 where
   goal_is : before.goal ≡ start.goal
   due : before.check_due ≡ false
@@ -192,11 +189,7 @@ single_step n start b at is some none = record {
 
 looked_now : (g : Goal) (d : Debugged) → position_of (looked_at g d) ≡ position_of d
 looked_now goal.Go d = refl
-looked_now (goal.In granularity) d = refl
-looked_now (goal.Over granularity) d = refl
-looked_now (goal.Out granularity) d = refl
-looked_now goal.Back d = refl
-looked_now goal.ReverseGo d = refl
+looked_now _ d = refl
 
 -- all else that a run back keeps
 record Same (d left : Debugged) : Type 0 where
@@ -223,10 +216,6 @@ looked_same goal.ReverseGo d = record { goal_is = refl; due = refl; past = refl;
 
 comes_to : (n : ℕ) (start before : Debugged) (g : Goal) → start.goal ≡ g → turns_back start.goal ≡ true → Goes n start before
     → (p : Nth n start.past) → Reverse n start (back_outcome g (as_before p.b (drop (suc n) start.past) before))
-comes_to n start before goal.Go is turns g p = absurd (let never : false ≡ true = sym (ap turns_back is) ∙ turns in cc)
-comes_to n start before (goal.In granularity) is turns g p = absurd (let never : false ≡ true = sym (ap turns_back is) ∙ turns in cc)
-comes_to n start before (goal.Over granularity) is turns g p = absurd (let never : false ≡ true = sym (ap turns_back is) ∙ turns in cc)
-comes_to n start before (goal.Out granularity) is turns g p = absurd (let never : false ≡ true = sym (ap turns_back is) ∙ turns in cc)
 comes_to n start before goal.Back is turns g p = record {
   says = single_step n start p.b p.at is g.some g.none;
   next = λ e. absurd (let never : Stopped why.Goal ≡ Went = e in cc);
@@ -241,6 +230,7 @@ comes_to n start before goal.ReverseGo is turns g p =
     subst (λ (h : Hit). Reverse n start (outcome_or h (unless_start rest))) hit
     (reverse n start p.b p.at is g.none rest (omega (arith, long, some)) (at_pc p.b start.lists.source) (at_pc p.b start.lists.instructions)
     (at_pc p.b start.lists.functions) refl refl refl)
+comes_to n start before _ is turns g p = absurd (let never : false ≡ true = sym (ap turns_back is) ∙ turns in cc)
 
 step : (n : ℕ) (start before after : Debugged) (tick : Tick) → turns_back start.goal ≡ true → Goes n start before
     → GoesBack before (Ok tick) after → Step n start tick.outcome after

@@ -1,7 +1,7 @@
 -- Where a run is meant to stop, and which way it goes (Debug Adapter Protocol, requests `continue`, `next`, `stepIn`,
 -- `stepOut`, `stepBack`, `reverseContinue`; `SteppingGranularity`).
 --
--- A run that goes on has no goal. One that steps in stops at the next place, one that steps over at the next place at
+-- A run that continues has no goal. One that steps in stops at the next place, one that steps over at the next place at
 -- which no more calls are open than at its start, and one that steps out wherever fewer are. A place is the first
 -- address of a source line, or an address outside every line; where one steps by instructions, each address is a
 -- place.

@@ -34,7 +34,7 @@ LeadTo (before ∷ past) now = MovesTo before now × LeadTo past before
 abbrev pub PastLeads : Course → Type 0
 PastLeads c = LeadTo c.past c.now
 
--- so many moves, one after the other
+-- this many moves, one after the other
 abbrev pub Makes : ℕ → Position → Position → Type 0
 Makes zero start now = now ≡ start
 Makes (suc n) start now = (middle : Position) × (Makes n start middle × MovesTo middle now)
@@ -47,7 +47,7 @@ oldest_of (before ∷ past) now = oldest_of past before
 abbrev pub oldest : Course → Position
 oldest c = oldest_of c.past c.now
 
--- so many moves are undone
+-- this many moves are undone
 abbrev pub back : ℕ → Course → Course
 back zero c = c
 back (suc k) c = gone_back (back k c)

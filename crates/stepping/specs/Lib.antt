@@ -4,7 +4,7 @@
 pub mod Goals
 -- one tick: a move, and what a debugger makes of it
 pub mod Ticks
--- a tick of which there is nothing to report, and many ticks
+-- a tick with nothing to report, and many ticks
 pub mod Plain
 pub mod Runs
 -- where a run stops: the least number at which a reason applies
@@ -21,7 +21,5 @@ pub mod Past
 pub mod Leading
 -- a machine that has lent its breakpoints
 pub mod Lending
--- What follows is cited by private clauses alone: what holds of every machine that is debugged.
-pub mod Running
--- instructions in a row, of which there is nothing to report
-pub mod Bursts
+-- what private clauses alone cite
+pub mod Private

@@ -17,7 +17,7 @@ pub record CanBeLoaded (image : Image) (size : ℕ) : Type 0 where
   pub aligned : image.entry % 4 ≡ 0
 
 -- The machine is as the image says: pc at the entry, sp at the end of memory, all other registers and all other bytes
--- 0. No instruction has retired, no move is recorded, and it goes on without a goal.
+-- 0. No instruction has retired, no move is recorded, and it runs without a goal.
 pub record IsLoaded (image : Image) (size : ℕ) (lists : Lists) (d : Debugged) : Type 0 where
   pub pc : d.hart.pc ≡ image.entry
   pub x : d.hart.x ≡ slice_set (replicate 32 0) 2 (first_address + size)
@@ -36,7 +36,7 @@ pub record IsLoaded (image : Image) (size : ℕ) (lists : Lists) (d : Debugged) 
 abbrev pub no_breakpoints : Lists
 no_breakpoints = record { source = []; instructions = []; functions = []; ids = []; logs = [] }
 
--- the same breakpoints, none of which was hit yet
+-- the same breakpoints, with no hits yet
 abbrev pub not_hit : Lists → Lists
 not_hit lists = record lists {
   source = map reset lists.source;

@@ -1,4 +1,4 @@
--- The tick of which there is nothing to report: the machine goes on, nothing was printed, and no logpoint has something
+-- The tick with nothing to report: the machine continues, nothing was printed, and no logpoint has something
 -- to say.
 use Rattle.std.specs.Prelude.{◌≡◌, None, []}
 use Rattle.stepping.specs.Ticks.{Debugged}

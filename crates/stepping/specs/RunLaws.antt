@@ -1,7 +1,7 @@
 -- What holds of every run. Each of these statements is the contract of a function of the module `laws`.
 --
--- Ticks stop where a run stops. Each tick stands for one number of its run: in a first run the first tick for 0, which
--- is the check at the entry, and in any other for 1. A tick goes on where no reason to stop applies at its number or at
+-- Ticks stop where a run stops. Each tick belongs to one number of its run: in a first run the first tick for 0, which
+-- is the check at the entry, and in any other for 1. A tick continues where no reason to stop applies at its number or at
 -- a lower one. It stops, or says that the program has ended, exactly at the least number at which one applies, and for
 -- the first reason there. Ticks of a run that goes back have laws of their own (`StoppingBack`).
 use Rattle.std.specs.Prelude.{◌≡◌, ℕ, ℤ, zero, suc, ◌+◌, ◌<◌, ◌≤◌, ◌⊎◌, ◌↔◌, false, if◌then◌else◌, Option}
@@ -72,13 +72,13 @@ EachMachineTicks = (d : Debugged) → HasTick d
 abbrev pub AnswersWith : Outcome → Result Tick AllocError → Type 0
 AnswersWith outcome answer = (printed : Option ℤ) × (answer ≡ Ok (record { printed = printed; outcome = outcome }))
 
--- so many ticks, each of which went on
+-- this many ticks, each with the outcome `Went`
 abbrev pub GoOn : ℕ → Debugged → Debugged → Type 0
 GoOn zero start after = after ≡ start
 GoOn (suc ticks) start after = (before : Debugged) × (answer : Result Tick AllocError)
     × (GoOn ticks start before × AnswersWith Went answer × IsTick before answer after)
 
--- the number of the tick that comes after so many
+-- the number of the tick that comes after this many
 abbrev pub number_after : ℕ → Debugged → ℕ
 number_after ticks start = if start.check_due then ticks else suc ticks
 
@@ -88,12 +88,12 @@ Says n Went start after = NoneBelow (suc n) start × After n start after
 Says n (Stopped reason) start after = StopsAt n (Stopped reason) start × Leaves n (Stopped reason) start after
 Says n (Ended code) start after = StopsAt n (Ended code) start × Leaves n (Ended code) start after
 
--- What a tick says is so.
+-- What a tick says is true.
 abbrev pub TicksSayWhere : Type 0
 TicksSayWhere = (ticks : ℕ) (start before after : Debugged) (tick : Tick) → turns_back start.goal ≡ false →
     GoOn ticks start before → IsTick before (Ok tick) after → Says (number_after ticks start) tick.outcome start after
 
--- Ticks say all of it: where a run stops at a number, those before it go on, and the one at it gives the reason.
+-- Ticks say all of it: where a run stops at a number, those before it continue, and the one at it gives the reason.
 abbrev pub RunsStopThere : Type 0
 RunsStopThere = (ticks n : ℕ) (outcome : Outcome) (start before after : Debugged) (answer : Result Tick AllocError) →
     turns_back start.goal ≡ false → StopsAt n outcome start → GoOn ticks start before → IsTick before answer after →
@@ -108,7 +108,7 @@ EndingSays went Spent start after = NoneBelow (number_after went start) start
 EndingSays went (Ticked tick) start after = Says (number_after went start) tick.outcome start after
 EndingSays went NoMemory start after = NoneBelow (number_after went start) start
 
--- What they say is so.
+-- What they say is true.
 abbrev pub RunsSayWhere : Type 0
 RunsSayWhere = (most : ℕ) (ran : Ran) (start after : Debugged) → turns_back start.goal ≡ false →
     IsRun most start ran after → EndingSays ran.went ran.ending start after

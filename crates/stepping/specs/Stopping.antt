@@ -20,7 +20,7 @@
 -- Where a run that goes back stops is said in `StoppingBack`.
 --
 -- Each move meets what the moves before it left: registers and memory, the breakpoints and their hits. Where something
--- else changes one of these between two moves, the run goes on from the machine as it is then, and its moves are
+-- else changes one of these between two moves, the run continues from the machine as it is then, and its moves are
 -- counted anew from there, from 1.
 --
 -- A machine is a `Debugged`: hart and memory, the calls, the breakpoints, the goal of the run and the depth at its
@@ -80,7 +80,7 @@ entered start = if start.check_due
     }
     else start
 
--- the machine after so many moves, if there are so many
+-- the machine after `n` moves, if there are that many
 abbrev pub After : ℕ → Debugged → Debugged → Type 0
 After zero start after = after ≡ entered start
 After (suc n) start after = (before : Debugged) × (After n start before × Advances before after)
@@ -102,7 +102,7 @@ Exits code before = Answers before (Exit code)
 abbrev pub Breaks : Debugged → Type 0
 Breaks before = Answers before Break
 
--- One of these breakpoints, whose hits are those of before, stops at the pc where the machine is now.
+-- One of these breakpoints, with its hits from before, stops at the pc where the machine is now.
 abbrev pub OneStops : List Placed → Debugged → Type 0
 OneStops breakpoints now = IsTrue (list_any (stops now.hart.pc now.hart now.memory) breakpoints)
 
@@ -204,7 +204,7 @@ pub record StopsAt (n : ℕ) (outcome : Outcome) (start : Debugged) : Type 0 whe
 
 -- ---- the machine that a run leaves
 
--- the one after so many moves, but that no breakpoint is named as one that stopped, and no logpoint as one that has
+-- the one after `n` moves, except that no breakpoint is named as one that stopped, and no logpoint as one that has
 -- something to say
 abbrev pub Unmoved : ℕ → Debugged → Debugged → Type 0
 Unmoved n start after = (before : Debugged)

@@ -33,7 +33,7 @@ use Rattle.stepping.specs.declared.tick.Tick.{Tick}
 abbrev pub OneStands : List Placed → Position → Type 0
 OneStands breakpoints p = IsTrue (list_any (stands p.hart.pc p.hart p.memory) breakpoints)
 
--- the reason applies once so many moves are undone, where this is the position before the last of them
+-- the reason applies once `n` moves are undone, where this is the position before the last of them
 abbrev pub AppliesThere : Goal → Outcome → ℕ → Position → Debugged → Type 0
 AppliesThere Back (Stopped GoalMet) n p start = n ≡ 1
 AppliesThere ReverseGo (Stopped Source) n p start = OneStands start.lists.source p
@@ -51,7 +51,7 @@ AppliesBack (suc n) outcome start =
 abbrev pub NoneBackBelow : ℕ → Debugged → Type 0
 NoneBackBelow n start = (lower : ℕ) (outcome : Outcome) → lower < n → AppliesBack lower outcome start → ⊥
 
--- A run back from here stops once so many moves are undone, for this reason.
+-- A run back from here stops once `n` moves are undone, for this reason.
 pub record StopsBackAt (n : ℕ) (outcome : Outcome) (start : Debugged) : Type 0 where
   pub applies : AppliesBack n outcome start
   pub first : (other : Outcome) → AppliesBack n other start → place outcome ≤ place other
@@ -65,12 +65,12 @@ SaysBack n Went start = NoneBackBelow (suc n) start
 SaysBack n (Stopped reason) start = StopsBackAt n (Stopped reason) start
 SaysBack n (Ended code) start = ⊥
 
--- the machine is where it was before one move more than so many, and what was recorded before that still is
+-- the machine is where it was before the last `n + 1` moves, and what was recorded before that still is
 pub record LeavesBack (n : ℕ) (start after : Debugged) : Type 0 where
   pub now : slice_get start.past n ≡ Some (position_of after)
   pub past : after.past ≡ drop (suc n) start.past
 
--- What a tick of a run back says is so, and it leaves the machine before as many moves.
+-- What a tick of a run back says is true, and it leaves the machine before as many moves.
 abbrev pub BackTicksSayWhere : Type 0
 BackTicksSayWhere = (ticks : ℕ) (start before after : Debugged) (tick : Tick) → turns_back start.goal ≡ true →
     start.check_due ≡ false → 1 ≤ length start.past → GoOn ticks start before → IsTick before (Ok tick) after →
@@ -84,7 +84,7 @@ one_stands lists p = list_any (stands p.hart.pc p.hart p.memory) lists.source
     || (list_any (stands p.hart.pc p.hart p.memory) lists.instructions
     || list_any (stands p.hart.pc p.hart p.memory) lists.functions)
 
--- where a run back stops: at the newest position of the past of which this is so, and else at the oldest
+-- where a run back stops: at the newest position of the past that passes the test, and else at the oldest
 abbrev pub turned : (Position → Bool) → List Position → Position → Course
 turned test [] now = record { now = now; past = [] }
 turned test (p ∷ past) now = if test p then record { now = p; past = past } else turned test past p
@@ -92,7 +92,7 @@ turned test (p ∷ past) now = if test p then record { now = p; past = past } el
 abbrev pub turned_from : Debugged → Course
 turned_from d = turned (one_stands d.lists) d.past (position_of d)
 
--- A tick of a run back that goes on leaves where the run stops as it was, and one that stops it is there.
+-- A tick after which a run back continues leaves where the run stops as it was, and one that stops it is there.
 abbrev pub TurnsTo : Outcome → Debugged → Debugged → Type 0
 TurnsTo Went before after = (turned_from after ≡ turned_from before) × (1 ≤ length after.past)
 TurnsTo (Stopped reason) before after = course_of after ≡ turned_from before

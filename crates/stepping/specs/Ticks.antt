@@ -10,7 +10,7 @@
 --
 -- The last 65,536 moves at which an instruction retired are recorded. Where a run goes back, a tick undoes the newest of
 -- them: hart, memory and calls are as they were before it, and the instruction is no longer counted. Breakpoints stay
--- as they are, with their hits. A step back ends with that; a run back goes on until a breakpoint stands at pc, or
+-- as they are, with their hits. A step back ends with that; a run back continues until a breakpoint stands at pc, or
 -- nothing is recorded any more. Where nothing is recorded, such a tick undoes nothing.
 use Rattle.std.specs.Prelude.{◌≡◌, ℕ, ◌+◌, ◌-◌, Bool, false, if◌then◌else◌, List, [], ◌∷◌, Option, Some, None}
 use Rattle.std.specs.Prelude.{Result, Ok, MatchBool}
@@ -77,7 +77,7 @@ hit_at_pc d = hit_in d.hart.pc d.hart d.memory d.lists
 abbrev pub with_check : Debugged → Debugged
 with_check d = record d { lists = checked d.hart.pc d.hart d.memory d.lists }
 
--- what there is to see at pc: the breakpoints, and whether the goal is met
+-- what a look at pc finds: the breakpoints, and whether the goal is met
 abbrev pub seen : Debugged → Outcome
 seen d = outcome_of (hit_at_pc d) (is_met d.goal d.start d.table d.hart.pc d.calls.depth)
 
@@ -144,7 +144,7 @@ undone_by (before ∷ past) d = record d {
 abbrev pub undone : Debugged → Debugged
 undone d = undone_by d.past d
 
--- a run back goes on, unless nothing is recorded any more
+-- a run back continues, unless nothing is recorded any more
 abbrev pub unless_start : List Position → Outcome
 unless_start [] = Stopped why.Start
 unless_start (before ∷ past) = Went

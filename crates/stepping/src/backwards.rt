@@ -13,7 +13,7 @@ use crate::tick::{Outcome, Ran, Reason, RunEnd, Tick};
 use std::alloc::AllocError;
 
 impl Runner {
-    /// Makes so many ticks at most, each of which goes back, and ends with the first of which there is something to report.
+    /// Makes at most `most` ticks, each a step back, and ends with the first that has something to report.
     pub(crate) fn go_back(&mut self, most: u32) -> Ran
         requires { turns_back self.old.goal ≡ true }
         ensures run { IsRun most self.old result self.new }
@@ -69,7 +69,7 @@ impl Runner {
         Ok(())
     }
 
-    // What there is to see at pc once a move was undone.
+    // What a look at pc finds once a move was undone.
     fn look_back(&mut self) -> Outcome
         ensures outcome { result ≡ back_outcome self.old.goal self.old }
         ensures state { self.new ≡ looked_at self.old.goal self.old }
@@ -83,7 +83,7 @@ impl Runner {
         Outcome::Stopped(Reason::Goal)
     }
 
-    // A run back goes on, unless nothing is recorded any more.
+    // A run back continues, unless nothing is recorded any more.
     fn unless_start(&self) -> Outcome
         ensures { result ≡ unless_start self.now.past }
     {

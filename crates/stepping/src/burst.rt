@@ -1,14 +1,14 @@
-//! Instructions in a row, of which there is nothing to report.
+//! Instructions in a row, with nothing to report.
 
 ghost use Rattle.std.specs.Prelude.{◌≡◌, ◌+◌, ◌^◌, ◌≤◌, ℕ};
 ghost use Rattle.std.specs.Bool.{OnFalse};
-ghost use Rattle.stepping.specs.Bursts.{Bursts, IsFar, moved_by};
+ghost use Rattle.stepping.specs.Private.Bursts.{Bursts, IsFar, moved_by};
 
 use breakpoints::Breaks;
 use course::{Calls, Course};
 use rv32i::Halt;
 
-/// What came of instructions in a row.
+/// How far instructions in a row went, and why they ended.
 #[derive(Clone, Copy)]
 pub(crate) struct Burst {
     /// How many retired, and led to where there is nothing to see.
@@ -43,7 +43,7 @@ impl Burst {
     }
 }
 
-/// Executes so many instructions at most, from the hart's pc on, up to the first that leads to a breakpoint, or to where fewer
+/// Executes at most `most` instructions, from the hart's pc on, up to the first that leads to a breakpoint, or to where fewer
 /// calls are open than `reach`. The hart's pc stays: it is answered where it would be. Whether there is anything to look for is
 /// decided once.
 pub(crate) fn retire(course: &mut Course, breaks: &Breaks, reach: u64, most: u32) -> Burst

@@ -2,15 +2,15 @@
 
 ghost use Rattle.std.specs.Prelude.{◌≡◌};
 ghost use Rattle.stepping.specs.Goals.{is_met, is_place, turns_back};
-ghost use Rattle.stepping.specs.Running.{IsInReach, IsOutOfReach};
+ghost use Rattle.stepping.specs.Private.Running.{IsInReach, IsOutOfReach};
 
 use image::LineTable;
 
-/// Where a run is meant to stop, and which way it goes (Debug Adapter Protocol, requests `continue`, `stepIn`, `next`, `stepOut`, `stepBack`,
-/// `reverseContinue`).
+/// Where a run is meant to stop, and which way it goes (Debug Adapter Protocol, requests `continue`, `stepIn`, `next`, `stepOut`,
+/// `stepBack`, `reverseContinue`).
 #[derive(Clone, Copy, Debug, PartialEq, Eq)]
 pub enum Goal {
-    /// Nowhere: the run goes on.
+    /// Nowhere: the run continues.
     Go,
     /// At the next place.
     In(Granularity),

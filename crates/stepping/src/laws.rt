@@ -69,7 +69,7 @@ pub fn ticks_stop_where_a_run_back_stops()
 {}
 
 /// Ticks of a run that does not go back stop where it stops: at the least number at which a reason applies, and
-/// for the first reason there. Before that number they go on.
+/// for the first reason there. Before that number they continue.
 pub fn ticks_stop_where_a_run_stops()
     ensures says { TicksSayWhere }
     ensures stops { RunsStopThere }

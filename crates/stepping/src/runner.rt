@@ -37,7 +37,7 @@ pub struct Runner {
 impl Model for Runner {
     ghost use Rattle.std.specs.Coded.{codes};
     ghost use Rattle.breakpoints.specs.Codes.{coded_tree};
-    ghost use Rattle.stepping.specs.Running.{IsSound};
+    ghost use Rattle.stepping.specs.Private.Running.{IsSound};
     ghost use Rattle.stepping.specs.Ticks.{Debugged};
 
     ghost Value = { Debugged };
@@ -62,8 +62,8 @@ impl Model for Runner {
 }
 
 impl Runner {
-    /// A machine with so many bytes of memory, into which an image was loaded: no instruction has retired, there are no breakpoints,
-    /// and it goes on without a goal. `size` is one that memory can have, with room for the image, whose entry is at a multiple of 4.
+    /// A machine with `size` bytes of memory, into which an image was loaded: no instruction has retired, there are no breakpoints,
+    /// and it runs without a goal. `size` is one that memory can have, with room for the image, whose entry is at a multiple of 4.
     /// `Err`: no memory was left.
     pub fn new(alloc: Global, image: &Image, size: u32) -> Result<Runner, AllocError>
         requires { CanBeLoaded image.now size }
@@ -88,7 +88,7 @@ impl Runner {
     }
 
     /// Loads an image anew: memory, hart and calls are as after `new`, no move is recorded, the breakpoints stay, and none of them was hit
-    /// yet. The image has to fit into the memory that there is, and its entry is at a multiple of 4. `Err`: no memory was left, and nothing changes.
+    /// yet. The image has to fit into the memory, and its entry is at a multiple of 4. `Err`: no memory was left, and nothing changes.
     pub fn reload(&mut self, image: &Image) -> Result<(), AllocError>
         requires { CanBeLoaded image.now self.old.size }
         ensures ok { OnOk result
@@ -122,7 +122,7 @@ impl Runner {
     }
 
     /// One tick: the check that is due at the entry; or, where the run goes back, the newest of the recorded moves is undone, if there is
-    /// one; or one move and what it comes to. `Err`: no memory was left for a page of which each byte is 0, into which the move stores, or
+    /// one; or one move and what it comes to. `Err`: no memory was left for a page of zeros into which the move stores, or
     /// into which a byte is put back, and nothing changes. Fewer than 2^62 instructions have retired before one that does not go back.
     pub fn tick(&mut self) -> Result<Tick, AllocError>
         requires { MayGo 1 self.old }
@@ -139,8 +139,8 @@ impl Runner {
         }
     }
 
-    /// Makes so many ticks at most, and ends with the first that prints a number, stops the machine or ends the program, after which a
-    /// logpoint has something to say, or for which no memory is left: it answers and leaves what so many calls of `tick` do. Fewer
+    /// Makes at most `most` ticks, and ends with the first that prints a number, stops the machine or ends the program, after which a
+    /// logpoint has something to say, or for which no memory is left: it answers and leaves what the same calls of `tick` do. Fewer
     /// than 2^62 instructions will have retired before each, unless the run goes back.
     pub fn run(&mut self, most: u32) -> Ran
         requires { MayGo most self.old }

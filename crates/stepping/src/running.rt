@@ -3,9 +3,9 @@
 
 ghost use Rattle.std.specs.Prelude.{◌≡◌, ◌+◌, ◌^◌, ◌<◌, ◌≤◌, ◌-◌, None, false, true};
 ghost use Rattle.course.specs.Positions.{Halts};
-ghost use Rattle.stepping.specs.Bursts.{Ends, EndsHalted, stretch_of};
+ghost use Rattle.stepping.specs.Private.Bursts.{Ends, EndsHalted, stretch_of};
 ghost use Rattle.stepping.specs.Goals.{turns_back};
-ghost use Rattle.stepping.specs.Running.{counted_by, IsEnding, left_by, Stretches};
+ghost use Rattle.stepping.specs.Private.Running.{counted_by, IsEnding, left_by, Stretches};
 ghost use Rattle.stepping.specs.Runs.{IsRun};
 ghost use Rattle.stepping.specs.Ticks.{entry_checked, entry_tick, hit_at_pc, outcome_of, outcome_or, position_of, seen, tick_of, with_check};
 
@@ -20,12 +20,12 @@ use rv32i::{Halt, Stepped};
 pub(crate) struct Stretch {
     /// How many went, with nothing printed or logged.
     pub went: u32,
-    /// What ended the run; `None`: it goes on.
+    /// What ended the run; `None`: it continues.
     pub ending: Option<RunEnd>,
 }
 
 impl Runner {
-    /// Makes so many ticks at most, and ends with the first of which there is something to report.
+    /// Makes at most `most` ticks, and ends with the first that has something to report.
     pub(crate) fn go(&mut self, most: u32) -> Ran
         requires forward { turns_back self.old.goal ≡ false }
         requires few { self.old.retired + most ≤ 2 ^ 62 }
@@ -46,7 +46,7 @@ impl Runner {
         }
     }
 
-    // Some ticks of a run, which are so many at most: those up to the first that has to be looked at, and that one.
+    // Some ticks of a run, at most `most`: those up to the first that has to be looked at, and that one.
     fn stretch(&mut self, most: u32) -> Stretch
         requires some { 0 < most }
         requires forward { turns_back self.old.goal ≡ false }
@@ -67,7 +67,7 @@ impl Runner {
         }
     }
 
-    // Instructions in a row, so many at most: how many went, and what ended them.
+    // At most `most` instructions in a row: how many went, and what ended them.
     fn advance(&mut self, most: u32) -> (u32, BurstEnd)
         requires due { self.old.check_due ≡ false }
         requires forward { turns_back self.old.goal ≡ false }
@@ -84,7 +84,7 @@ impl Runner {
         (burst.went, burst.ending)
     }
 
-    // The instruction at pc halts: what comes of it, which ends the run.
+    // The instruction at pc halts: how that ends the run.
     #[cold]
     #[inline(never)]
     fn halted(&mut self, halt: Halt) -> RunEnd
@@ -167,7 +167,7 @@ impl Runner {
         }
     }
 
-    // What there is to see at pc, and how a run ends with it.
+    // What a look at pc finds, and how a run ends with it.
     #[inline]
     fn look_closely(&mut self) -> Option<RunEnd>
         ensures ending { IsEnding (record { printed = None; outcome = seen self.old })
@@ -181,7 +181,7 @@ impl Runner {
         })
     }
 
-    // What there is to see at pc: the breakpoints, and whether the goal is met.
+    // What a look at pc finds: the breakpoints, and whether the goal is met.
     #[inline]
     fn look(&mut self) -> Outcome
         ensures outcome { result ≡ seen self.old }
@@ -212,7 +212,7 @@ impl Runner {
         self.breaks.check(hart.pc, hart, self.course.memory())
     }
 
-    /// How a run ends by the tick that led here; `None`: it goes on.
+    /// How a run ends by the tick that led here; `None`: it continues.
     pub(crate) fn ending_of(&self, tick: Tick) -> Option<RunEnd>
         ensures { IsEnding tick self.now result }
     {
@@ -234,7 +234,7 @@ fn counted_by(stepped: Stepped) -> u64
     }
 }
 
-// So many ticks went, and then one more, after which a run ends so, or goes on.
+// `went` ticks and then one more, after which a run ends with `ending`, or continues.
 fn stretch_of(went: u32, ending: Option<RunEnd>) -> Stretch
     requires { went < 2 ^ 32 - 1 }
     ensures { result ≡ stretch_of went ending }

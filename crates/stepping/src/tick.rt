@@ -5,19 +5,19 @@ ghost use Rattle.stepping.specs.Plain.{plain_tick};
 
 use rv32i::Cause;
 
-/// What came of one tick of a debugged machine.
+/// What one tick of a debugged machine answers.
 #[derive(Clone, Copy, Debug, PartialEq, Eq)]
 pub struct Tick {
     /// The number that the program printed; `None`: it printed none.
     pub printed: Option<i32>,
-    /// Whether the machine goes on.
+    /// Whether the machine continues.
     pub outcome: Outcome,
 }
 
-/// Whether a machine goes on after a tick.
+/// Whether a machine continues after a tick.
 #[derive(Clone, Copy, Debug, PartialEq, Eq)]
 pub enum Outcome {
-    /// It goes on.
+    /// It continues.
     Went,
     /// It stops.
     Stopped(Reason),
@@ -45,13 +45,13 @@ pub enum Reason {
 }
 
 impl Tick {
-    /// The tick of which there is nothing to report, unless a logpoint has something to say after it.
+    /// The tick with nothing to report, unless a logpoint has something to say after it.
     pub(crate) const PLAIN: Tick = Tick {
         printed: None,
         outcome: Outcome::Went,
     };
 
-    /// Whether the machine goes on, and nothing was printed. What logpoints have to say is no part of a tick.
+    /// Whether the machine continues, and nothing was printed. What logpoints have to say is no part of a tick.
     #[inline]
     pub fn is_plain(&self) -> bool
         ensures { MatchBool result (self.now ≡ plain_tick) (self.now ≢ plain_tick) }
@@ -66,7 +66,7 @@ impl Tick {
     }
 }
 
-/// What came of a run of ticks.
+/// What a run of ticks answers.
 #[derive(Clone, Copy, Debug, PartialEq, Eq)]
 pub struct Ran {
     /// How many ticks went, with nothing printed or logged.

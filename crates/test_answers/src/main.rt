@@ -2,13 +2,13 @@
 //!
 //! - `row LINE ADDRESS WORDS`: a row of the next program's line table; the rows have to rise.
 //! - `label NAME ADDRESS`: a label of the next program.
-//! - `program END SIZE PATH`: the program of these rows and labels, whose bytes end there, in a memory of so many bytes; the path as
+//! - `program END SIZE PATH`: the program of these rows and labels, whose bytes end there, in a memory of SIZE bytes; the path as
 //!   bytes.
 //! - `bases LINE COLUMN`: the numbers of the editor's first line and column, 0 or 1; 1 at the start.
 //! - `breaks NEXT REQUEST`: what a request, as bytes, answers where the next breakpoint has this number: the message of number 1, and
 //!   then what `lists` says of the list.
 //! - `write ADDRESS BYTES`: writes bytes to the program's memory.
-//! - `set NUMBER VALUE`, `go ADDRESS`: sets a register, 1 to 31, and pc; `run COUNT`: makes so many moves at most.
+//! - `set NUMBER VALUE`, `go ADDRESS`: sets a register, 1 to 31, and pc; `run COUNT`: makes at most COUNT moves.
 //! - what is asked of variables, and of the numbers of frames and scopes, `scopes` and `numbers` say.
 //! - `look REQUEST`: what a request that looks into the machine, as bytes, answers: the message of number 1, and then `targets` and the
 //!   targets, if there are some.

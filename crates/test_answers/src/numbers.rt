@@ -1,7 +1,7 @@
 //! Numbers of frames and scopes.
 //!
 //! - `last NUMBER`: no number is issued yet, and this is the last that may be; at the start it is 2,147,483,647.
-//! - `issue TARGET..`, `number TARGET`: numbers of targets, each of which is `registers`, `stack` or the index of a frame. `issue_once`
+//! - `issue TARGET..`, `number TARGET`: numbers of targets; each is `registers`, `stack` or the index of a frame. `issue_once`
 //!   is not made again where it found no memory, which is its answer then.
 //! - `find NUMBER`, `next`, `end`: what a number refers to; the next number; the stop ends.
 

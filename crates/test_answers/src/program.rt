@@ -1,4 +1,4 @@
-//! A program of which there is a line table alone, and its machine.
+//! A program that is a line table alone, and its machine.
 
 ghost use Rattle.std.specs.Prelude.{◌≡◌, ◌≤◌, ◌%◌, IsTrue};
 ghost use Rattle.answers.specs.Answers.{sets_breakpoints};
@@ -131,7 +131,7 @@ fn is_for_breakpoints(command: &Command) -> bool
     )
 }
 
-// Whether memory can have so many bytes.
+// Whether memory can have this many bytes.
 fn is_size(size: u32) -> bool
     ensures whole { IsTrue result → size % 4096 ≡ 0 }
     ensures some { IsTrue result → 4096 ≤ size }

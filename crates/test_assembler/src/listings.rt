@@ -1,6 +1,6 @@
 //! Listings.
 //!
-//! - `writer ROOM`: a writer that takes so many bytes, and then fails.
+//! - `writer ROOM`: a writer that takes ROOM bytes, and then fails.
 //! - `text BYTES`: writes the listing of a text to it.
 //! - `taken`: the bytes that the writer took.
 

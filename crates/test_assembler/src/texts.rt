@@ -1,6 +1,6 @@
 //! Whole texts and their images.
 //!
-//! - `assemble SIZE BYTES`: assembles a text for a memory of so many bytes, and keeps its image.
+//! - `assemble SIZE BYTES`: assembles a text for a memory of SIZE bytes, and keeps its image.
 //! - `image entry`, `image bytes`: the image's; other arguments after `image` are asked of its lines, as
 //!   `testing::ask_lines` says.
 

@@ -4,7 +4,7 @@ use std::alloc::{AllocError, Global};
 use std::io::{Error, ErrorKind, Write};
 use std::{cmp, io};
 
-/// A writer that takes so many bytes, and then fails. Their memory is there from the start.
+/// A writer that takes this many bytes, and then fails. Their memory is there from the start.
 #[derive(Drop)]
 pub(crate) struct Taker {
     taken: Vec<u8>,
@@ -20,7 +20,7 @@ impl Taker {
         }
     }
 
-    /// A writer that takes so many bytes.
+    /// A writer that takes `room` bytes.
     pub(crate) fn new(alloc: Global, room: u32) -> Result<Taker, AllocError> {
         let room = room as usize;
         Ok(Taker {

@@ -10,7 +10,7 @@ use testing::{Fault, bytes_of, parsed};
 /// The event that a command is.
 ///
 /// - `connect`, `drop`: an editor connects, and its connection ends.
-/// - `recv PIECE`: a piece came. `sent COUNT`: so many bytes were sent.
+/// - `recv PIECE`: a piece came. `sent COUNT`: COUNT bytes were sent.
 /// - `turn`, `turn FILE`: the first request that waits is answered, where its file holds these bytes.
 /// - `slice MOVES`: the program is given time. `hold`: it is held.
 pub fn event_of(alloc: Global, arguments: &[&str]) -> Result<Event, Fault> {

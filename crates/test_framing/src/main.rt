@@ -46,7 +46,7 @@ impl Player for Framing {
     }
 }
 
-/// So many times lends a body and feeds the piece. It answers whether there was a body each time, and no
+/// Lends a body and feeds the piece, `count` times. It answers whether there was a body each time, and no
 /// error.
 fn turns(unframer: &mut Unframer, count: u32, piece: &[u8]) -> bool {
     for _ in 0..count {

@@ -1,9 +1,9 @@
 //! Memory.
 //!
-//! - `new SIZE`: memory of so many bytes.
+//! - `new SIZE`: memory of SIZE bytes.
 //! - `byte ADDRESS`, `half ADDRESS`, `word ADDRESS`: the value; `none` or a fault.
 //! - `word_bytes ADDRESS`: the bytes of the word, or a fault.
-//! - `read ADDRESS BYTES`: what came of it, and what the bytes then are that are read into.
+//! - `read ADDRESS BYTES`: the outcome, and what the bytes then are that are read into.
 //! - `write_byte ADDRESS VALUE`, `write_half`, `write_word`; `write ADDRESS BYTES`.
 //! - `once COMMAND`: the same, and not made again where it found no memory.
 
@@ -12,7 +12,7 @@ use std::alloc::Global;
 use std::fmt::Display;
 use testing::{Fault, bytes_of, called, found, hexadecimal, once, parsed, shown};
 
-/// Memory of so many bytes.
+/// Memory of `size` bytes.
 pub(crate) fn new_memory(alloc: Global, size: &str) -> Result<Memory, Fault> {
     let size: u32 = parsed(size)?;
     if size % 4096 != 0 || size < 4096 || size > 16_777_216 {

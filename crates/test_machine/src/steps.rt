@@ -2,7 +2,7 @@
 //!
 //! - `new ENTRY SP`: a hart at an entry, with a stack pointer.
 //! - `set NUMBER VALUE`: sets a register, 1 to 31; `go ADDRESS`: sets pc.
-//! - `step`: what came of a step.
+//! - `step`: the outcome of a step.
 //! - `keep`: what undoes the next move; `keep_at WORD ADDRESS`: what undoes that of a word's instruction at an address;
 //!   `keep_pc ADDRESS`: of one that changes pc alone. Each keeps it.
 //! - `stored`: how many bytes what is kept puts back; `undo`: undoes the move. `once undo`: the same, and not made again where it found

@@ -1,6 +1,6 @@
 //! Plays `session`: the events of a session, and what it says of itself.
 //!
-//! - `new SIZE SEQ REF RETIRED [PATH TEXT]`: a session with so many bytes of memory, these limits, and this program.
+//! - `new SIZE SEQ REF RETIRED [PATH TEXT]`: a session with SIZE bytes of memory, these limits, and this program.
 //! - an event by its name, with its arguments: `turn FILE` is given what a file holds. `apply EVENT` does the same.
 //! - `slice_once MOVES`: a slice that is not made again where it found no memory.
 //! - a query by its name; `seen QUERY` takes a snapshot, and asks that. `state` asks all of them.
@@ -184,7 +184,7 @@ impl Events {
         }
     }
 
-    /// So many moves, of which those that were made before no memory was found are not made again.
+    /// A slice of these moves, without those that were made before no memory was found.
     fn slice(&mut self, alloc: Global, moves: u32) -> Result<String, Fault> {
         let sliced = self.session.slice(moves.saturating_sub(self.moved));
         let moved = self.moved.saturating_add(sliced.moved);

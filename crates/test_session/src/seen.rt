@@ -1,4 +1,4 @@
-//! What there is to see of a session, by a snapshot.
+//! What can be seen of a session, by a snapshot.
 use session::{Session, Snapshot};
 use std::alloc::Global;
 use test_facts::{break_of, frame_of, value_of};

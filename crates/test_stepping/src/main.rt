@@ -1,6 +1,6 @@
 //! Plays a debugged machine: a program that is assembled and loaded, its breakpoints, and its ticks.
 //!
-//! - `load SIZE BYTES`: assembles a text for a memory of so many bytes, and loads its image; `reload`: loads it anew.
+//! - `load SIZE BYTES`: assembles a text for a memory of SIZE bytes, and loads its image; `reload`: loads it anew.
 //! - what else there is, `machine.rt` says.
 #![tactic(auto)]
 

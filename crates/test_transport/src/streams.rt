@@ -8,8 +8,8 @@ use std::{cmp, io};
 /// How many bytes the writer has room for without asking for memory.
 const ROOM: usize = 65_536;
 
-/// How a stream goes: each call moves so many bytes at most and is interrupted so many times before,
-/// and once so many were made they fail.
+/// How a stream goes: each call moves at most `most` bytes, after `interruptions` interruptions, and after
+/// `calls_left` calls they fail.
 #[derive(Clone, Copy)]
 pub(crate) struct Pace {
     pub most: usize,
@@ -28,7 +28,7 @@ impl Pace {
         }
     }
 
-    /// How many of so many bytes the next call moves, or why it fails.
+    /// How many of `count` bytes the next call moves, or why it fails.
     fn next(&mut self, count: usize) -> io::Result<usize>
         ensures { IfOk result (λ moved. moved ≤ count) }
     {

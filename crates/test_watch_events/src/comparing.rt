@@ -1,4 +1,4 @@
-//! What is known, held against what there was to see.
+//! What is known, held against what could be seen.
 
 use facts::{BreakInfo, FrameInfo, RunState};
 use mirror::Mirror;
@@ -17,7 +17,7 @@ pub(crate) const FIRST_ADDRESS: u32 = 65_528;
 
 pub(crate) const LAST_ADDRESS: u32 = 69_640;
 
-/// How many facts are known, or the first kind of which one was not so.
+/// How many facts are known, or the first kind with one that was not so.
 pub(crate) fn compared(alloc: Global, watched: &Watched) -> Result<String, Fault> {
     match compare(&watched.mirror, watched.snapshot.as_ref()) {
         Ok(count) => shown(alloc, count),

@@ -14,7 +14,7 @@ use testing::{Fault, shown};
 const REQUEST_LIMIT: u32 = 1_048_576;
 
 /// What an editor does on a connection: it tells a request once the piece with its last byte was accepted, and feeds the bytes as they are
-/// queued, in pieces of this size at most, until it has fed so many.
+/// queued, in pieces of this size at most, until it has fed `count`.
 #[derive(Drop)]
 pub(crate) struct Editor {
     alloc: Global,
@@ -106,7 +106,7 @@ impl Editor {
     }
 }
 
-/// How many facts both know, or the first kind of which they know something else.
+/// How many facts both know, or the first kind in which they differ.
 pub(crate) fn alike(alloc: Global, one: &Mirror, other: &Mirror) -> Result<String, Fault> {
     match count_alike(one, other) {
         Ok(count) => shown(alloc, count),

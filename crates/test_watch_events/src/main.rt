@@ -1,6 +1,6 @@
-//! Plays `watch_events`: events are listed, and then what is known of them is held against what there was to see.
+//! Plays `watch_events`: events are listed, and then what is known of them is held against what could be seen.
 //!
-//! - `new SIZE [PATH TEXT]`: no events; a session has so much memory, and this program.
+//! - `new SIZE [PATH TEXT]`: no events; a session has SIZE bytes of memory, and this program.
 //! - an event by its name, with its arguments: it is listed, and the answer is how many are.
 //! - `queued C`: how many bytes connection C gets of the events so far.
 //! - `compare C N`: how many facts are known by these bytes, or the first that was not so.

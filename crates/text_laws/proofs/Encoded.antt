@@ -1,21 +1,10 @@
 -- Bytes in base64 are a plain text, of four characters for three bytes.
-use Rattle.std.proofs.Common.{◌≡◌, ℕ, ◌+◌, ◌*◌, ◌/◌, ◌%◌, ◌<◌, ◌≤◌, ◌&&◌, ◌==◌, not, nat_le, nat_lt, Bool, true, List, [], ◌∷◌, length, refl, arith, ltb-true}
-use Rattle.std.proofs.lemmas.Bool.{and_parts}
-use Rattle.std.proofs.lemmas.Bool.Decides.{nat_tests}
-use Rattle.std.proofs.lemmas.List.{length-append, length-replicate}
-use Rattle.std.proofs.lemmas.List.Elements.{All-append, All-cons, All-get_or, All-nil, All-replicate}
-use Rattle.std.specs.List.{list_all}
-use Rattle.std.specs.Prelude.{replicate, slice_index}
+use Rattle.text_laws.proofs.Common.{[], All-append, All-cons, All-get_or, All-nil, All-replicate, and_parts, are_bytes, arith, Bool, encode_of, IsPlain, IsPlainByte, length, length-append, length-replicate, List, list_all, nat_le, nat_lt, nat_tests, not, refl, replicate, slice_index, standard, true, written_length, ℕ, ◌%◌, ◌&&◌, ◌*◌, ◌+◌, ◌/◌, ◌<◌, ◌==◌, ◌∷◌, ◌≡◌, ◌≤◌}
+use Rattle.std.proofs.Common.{ltb-true}
 use Rattle.base64.proofs.RoundTrip.{length-encode_symbols}
-use Rattle.base64.specs.Engines.{standard}
-use Rattle.base64.specs.GeneralPurpose.{encode_of}
 use Rattle.base64.specs.Rfc4648.{encode_group, encode_symbols, padding_len}
-use Rattle.message_parts.specs.EncodedBytes.{are_bytes}
-use Rattle.text_laws.specs.Lengths.{written_length}
-use Rattle.text_laws.specs.Texts.{IsPlain, IsPlainByte}
 use Rattle.text_laws.proofs.Sizes.{plain_texts_stand}
 
--- the symbols
 abbrev symbols : List ℕ
 symbols = standard.encode_table
 
@@ -32,7 +21,7 @@ all_plain (b ∷ bytes) h =
     let both = and_parts (is_plain_byte b) (list_all is_plain_byte bytes) h in
     All-cons IsPlainByte b bytes (plain_byte b both.0) (all_plain bytes both.1)
 
--- there are 64 of them, and each is plain
+-- there are 64 symbols, and each is plain
 symbol_plain : (i : ℕ) → i < 64 → IsPlainByte (slice_index symbols i)
 symbol_plain i below = All-get_or IsPlainByte symbols i 0 below (all_plain symbols refl)
 

@@ -1,17 +1,10 @@
--- What is written in a form has at most so many bytes: form by form.
-use Rattle.std.proofs.Common.{ℕ, ◌+◌, ◌*◌, ◌≤◌, List, [], ◌∷◌, ◌⊎◌, inl, inr, Option, Some, None, Bool, length, mul-suc, arith}
-use Rattle.std.specs.List.{sum_by}
-use Rattle.base64.specs.Engines.{standard}
-use Rattle.base64.specs.GeneralPurpose.{encode_of}
-use Rattle.serde_json.specs.Data.{Data}
+-- What is written in a form has at most this many bytes: form by form.
+use Rattle.text_laws.proofs.Common.{[], arith, Bool, Data, either, encode_of, encoded_bytes, field, Fields, fixed, Form, if_any, inl, inr, items_of, length, List, list, made_of, member_if, members_either, mul-suc, None, none, object_of, one_of, Option, optional, signed, Some, standard, sum_by, text, unless_empty, whole, written_length, ℕ, ◌*◌, ◌+◌, ◌∷◌, ◌≤◌, ◌⊎◌}
 use Rattle.message_parts.specs.Addresses.{address, address_text}
-use Rattle.message_parts.specs.EncodedBytes.{encoded_bytes}
-use Rattle.message_parts.specs.Forms.{Fields, Form, either, field, fixed, if_any, items_of, list, made_of, member_if, members_either, none, object_of, one_of, optional, signed, text, unless_empty, whole}
 use Rattle.message_parts.specs.InstructionBytes.{bytes_text, instruction_bytes}
-use Rattle.text_laws.specs.Lengths.{written_length}
 use Rattle.text_laws.proofs.Sizes.{items_size, items_size-items_of, members_size, size, texts_are_escaped}
 
--- each value is written in at most so many bytes
+-- each value is written in at most this many bytes
 pub record Fits {A : Type 0} (form : Form A) (most : A → ℕ) : Type 0 where
   pub fits : (x : A) → size (form.value x) ≤ most x
 

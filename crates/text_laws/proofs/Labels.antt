@@ -1,13 +1,8 @@
 -- The names of labels are plain, and no longer than the text that they stand in.
-use Rattle.std.proofs.Common.{◌≡◌, ℕ, suc, ◌+◌, ◌-◌, ◌≤◌, Bool, true, false, cond, ◌==◌, inl, inr, List, [], ◌∷◌, length, map, take, Option, Some, None, Result, Ok, Err, IfOk, IfSome, refl, arith}
-use Rattle.std.proofs.lemmas.Bool.{and_parts, cases_lt, ltb-false}
-use Rattle.std.proofs.lemmas.Bool.Decides.{nat_tests}
-use Rattle.std.proofs.lemmas.List.{get_or_past, length-take}
-use Rattle.std.proofs.lemmas.List.Elements.{All-append, All-cons, All-get_or, All-nil}
+use Rattle.text_laws.proofs.Common.{[], All, All-append, All-cons, All-get_or, All-nil, and_parts, arith, Bool, cases_lt, cond, Err, false, get_or_past, IfOk, inl, inr, is_utf8, IsAscii, IsPlain, IsPlainByte, length, length-take, List, list_all, ltb-false, map, nat_tests, None, Ok, onto_first, Option, position, refl, Result, slice_index, slice_split, Some, suc, take, true, ℕ, ⊤, ◌+◌, ◌-◌, ◌==◌, ◌∷◌, ◌≡◌, ◌≤◌}
+use Rattle.std.proofs.Common.{IfSome}
 use Rattle.std.proofs.lemmas.Str.{IsUtf8-from_ascii}
-use Rattle.std.specs.List.{list_all, onto_first, slice_split}
-use Rattle.std.specs.Prelude.{All, position, slice_index, ⊤, nat_lt}
-use Rattle.std.specs.Str.{IsAscii, is_utf8}
+use Rattle.std.specs.Prelude.{nat_lt}
 use Rattle.std.specs.Str.Lossy.{utf8_valid_len}
 use Rattle.std.specs.Str.Lines.{lines, lines_of_parts, strip_carriage_return}
 use Rattle.byte_strings.specs.Blanks.{is_blank, trimmed, without_leading_blanks}
@@ -26,7 +21,6 @@ use Rattle.assembler.specs.Program.{kept, line_at, line_then, read_by, read_line
 use Rattle.assembler.specs.declared.error.AsmError.{AsmError}
 use Rattle.assembler.specs.declared.error.AsmErrorKind.TheVariants as k
 use Rattle.text_laws.specs.Labels.{IsNameWithin, LabelsAreTexts, ProgramsAreShort}
-use Rattle.text_laws.specs.Texts.{IsPlain, IsPlainByte}
 
 -- ---- names
 
@@ -62,7 +56,7 @@ name_within most name h le =
 
 -- ---- the parts of a text
 
--- each has at most so many bytes
+-- each has at most this many bytes
 abbrev AreWithin : ℕ → List (List ℕ) → Type 0
 AreWithin most [] = ⊤
 AreWithin most (part ∷ parts) = (length part ≤ most) × AreWithin most parts

@@ -1,17 +1,11 @@
 -- The text of a message is no longer than is said of its kind.
-use Rattle.std.proofs.Common.{◌≡◌, ℕ, ◌+◌, ◌*◌, ◌^◌, ◌<◌, ◌≤◌, ◌&&◌, true, false, List, Option, Some, None, IfSome, length, codes, nat_le, refl, subst, sym, arith, leb-true, lit<}
-use Rattle.std.proofs.lemmas.Bool.{and_parts}
-use Rattle.std.specs.List.{sum_by}
-use Rattle.base64.specs.Engines.{standard}
-use Rattle.base64.specs.GeneralPurpose.{encode_of}
+use Rattle.text_laws.proofs.Common.{and_parts, are_bytes, arith, boolean, codes, Data, encode_of, false, Form, is_in_if, is_word, length, List, lit<, member, member_if, most_bytes, most_of_body, most_of_event, most_of_frame, most_of_instruction, most_of_instruction_breakpoint, most_of_outcome, most_of_source, most_of_source_breakpoint, most_of_variable, nat_le, no_members, None, number, object, Option, put, refl, Some, standard, string, subst, sum_by, sym, TextsAreBounded, true, unsigned, whole, written_length, written_length_if, ℕ, ◌&&◌, ◌*◌, ◌+◌, ◌<◌, ◌^◌, ◌≡◌, ◌≤◌}
+use Rattle.std.proofs.Common.{IfSome, leb-true}
 use Rattle.json.specs.Print.{escape_byte}
-use Rattle.serde_json.specs.Data.{Data, boolean, member, no_members, number, object, put, string, unsigned}
 use Rattle.message_parts.specs.Breakpoints.{is_verified}
 use Rattle.message_parts.specs.Disassemble as disassembly
-use Rattle.message_parts.specs.EncodedBytes.{are_bytes}
 use Rattle.message_parts.specs.Evaluate.{evaluate}
 use Rattle.message_parts.specs.Exited.{exited}
-use Rattle.message_parts.specs.Forms.{Form, is_in_if, is_word, member_if, whole}
 use Rattle.message_parts.specs.Output.{categories, category_name, output}
 use Rattle.message_parts.specs.ReadMemory.{or_0, read_memory, unless_0}
 use Rattle.message_parts.specs.Scopes as scope
@@ -58,7 +52,6 @@ use Rattle.replies.proofs.ByBody.{by_body}
 use Rattle.replies.proofs.HasForm.{HasForm, IsAlways}
 use Rattle.replies.proofs.LawfulEvents.{lawful_exited, lawful_output, lawful_stopped}
 use Rattle.replies.proofs.Refusals.{of_each, small-id_of}
-use Rattle.text_laws.specs.Lengths.{TextsAreBounded, most_bytes, most_of_body, most_of_event, most_of_frame, most_of_instruction, most_of_instruction_breakpoint, most_of_outcome, most_of_source, most_of_source_breakpoint, most_of_variable, written_length, written_length_if}
 use Rattle.text_laws.proofs.Encoded.{encoded_fits}
 use Rattle.text_laws.proofs.Fitting.{Fits, fits_address, fits_either, fits_encoded_bytes, fits_even_list, fits_field, fits_fixed, fits_instruction_bytes, fits_list, fits_made_of, fits_none, fits_object, fits_one_of, fits_optional, fits_signed, fits_text, fits_unless_empty, fits_weaker, fits_whole, members_weaker, FieldsFit, most_either, most_if}
 use Rattle.text_laws.proofs.Sizes.{length-compact_text, size, texts_are_escaped}
@@ -316,9 +309,6 @@ fits_write_memory =
 
 body_fits : (body : ResponseBody) → has_numbers body ≡ true → IfSome (body_data body) (λ d. size d ≤ most_of_body body)
 unfolding escape_byte
-body_fits kind.Initialize h = omega arith
-body_fits kind.Threads h = omega arith
-body_fits kind.Continue h = omega arith
 body_fits (kind.SetBreakpoints b) h = fits_set_breakpoints.fits b
 body_fits (kind.SetFunctionBreakpoints b) h = fits_set_function_breakpoints.fits b
 body_fits (kind.SetInstructionBreakpoints b) h = fits_set_instruction_breakpoints.fits b
@@ -331,6 +321,7 @@ body_fits (kind.Disassemble b) h = fits_disassemble.fits b
 body_fits (kind.ReadMemory b) h = read_memory_fits b h
 body_fits (kind.WriteMemory b) h = fits_write_memory.fits b
 body_fits kind.Empty h = tt
+body_fits _ h = omega arith
 
 done_fits : (seq request_seq : ℕ) (command : List ℕ) (body : Option Data) (n : ℕ) → IfSome body (λ d. size d ≤ n)
     → size (object (member_if (codes "body") (λ d. d) body (shared_members seq request_seq command true)))
@@ -373,12 +364,7 @@ outcome_fits seq request_seq command (Refused refusal text) proper =
 
 reason_short : (r : Reason) → length (reason_name r) ≤ 22
 reason_short why.Entry = omega arith
-reason_short why.Step = omega arith
-reason_short why.Breakpoint = omega arith
-reason_short why.InstructionBreakpoint = omega arith
-reason_short why.FunctionBreakpoint = omega arith
-reason_short why.Exception = omega arith
-reason_short why.Pause = omega arith
+reason_short _ = omega arith
 
 text_if : (found : Option (List ℕ)) → most_if written_length found ≤ written_length_if found
 text_if None = omega arith

@@ -1,5 +1,6 @@
+pub mod Common
 -- ---- requests
--- what a string stands for
+-- the text that a string represents
 pub mod Strings
 -- the texts of tokens, of a JSON value, and of what it is read as
 pub mod Tokens

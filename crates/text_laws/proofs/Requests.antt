@@ -1,9 +1,5 @@
 -- The texts of a request are in its body.
-use Rattle.std.proofs.Common.{◌≡◌, ℕ, suc, ◌≤◌, Bool, true, false, cond, List, [], ◌∷◌, length, map, Option, Some, None, option_and_then, option_map, Result, Ok, Err, refl, sym, ap, subst, arith}
-use Rattle.std.proofs.lemmas.List.{length-map}
-use Rattle.std.proofs.lemmas.List.Elements.{All-cons, All-nil}
-use Rattle.std.specs.Prelude.{All, IfSome, bytes_eq, ok_or, unwrap_or, ◌||◌}
-use Rattle.serde_json.specs.Data.{Data, Items, Members, item, no_items}
+use Rattle.text_laws.proofs.Common.{[], All, All-cons, All-nil, ap, arith, Bool, bytes_eq, cond, Data, Err, false, IfSome, IsTextWithin, item, Items, length, length-map, List, map, Members, no_items, None, Ok, ok_or, Option, option_and_then, option_map, refl, Result, Some, subst, suc, sym, true, unwrap_or, ℕ, ◌||◌, ◌∷◌, ◌≡◌, ◌≤◌}
 use Rattle.serde_json.specs.Find.{as_array, as_bool, as_object, as_str}
 use Rattle.protocol.specs.Arguments.{arguments_members, each, list, optional, required}
 use Rattle.protocol.specs.Commands.{command_of, execution_requests}
@@ -28,7 +24,6 @@ use Rattle.protocol.specs.declared.set_breakpoints.SourceBreakpoint.{SourceBreak
 use Rattle.protocol.specs.declared.set_breakpoints.TheConstants.{LINE, LINES, LOG_MESSAGE, SOURCE}
 use Rattle.protocol.proofs.Requests.{read_by_its_name}
 use Rattle.text_laws.specs.Requests.{AsksWithin, MeansWithin, RequestsHaveTexts, WritesWithin}
-use Rattle.text_laws.specs.Texts.{IsTextWithin}
 use Rattle.text_laws.proofs.Values.{AreItemsWithin, AreMembersWithin, IsWithin, as_array_within, as_object_within, as_str_within, count, json_within, map_holds, property_within, then_any, then_holds}
 
 -- ---- arguments
@@ -109,7 +104,7 @@ source_breakpoint_within most d h =
     (optional as_str (property LOG_MESSAGE.now members)) _
     (optional_within most (IsTextWithin most) as_str LOG_MESSAGE.now members (as_str_within most) within) (λ log held. held)))))
 
--- so many breakpoints of a source, each of which writes such a text
+-- at most this many breakpoints of a source, each of them writing such a text
 abbrev AreSourceWithin : ℕ → List SourceBreakpoint → Type 0
 AreSourceWithin most breakpoints = (length breakpoints ≤ most) × All (WritesWithin most) breakpoints
 

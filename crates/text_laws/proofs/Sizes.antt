@@ -1,18 +1,13 @@
 -- How many bytes a JSON value is written in: a bound that adds up.
-use Rattle.std.proofs.Common.{◌≡◌, ℕ, suc, ◌+◌, ◌*◌, ◌≤◌, pos, negsuc, Bool, true, false, cond, List, [], ◌∷◌, ◌++◌, length, nat_lt, ◌/◌, ◌%◌, refl, ap, arith, length-append, lit<}
+use Rattle.text_laws.proofs.Common.{[], All-head, All-tail, ap, arith, array, Bool, boolean, cond, Data, false, float, IsPlain, IsPlainByte, item, Items, items_of, length, List, lit<, member, Members, nat_lt, negative, negsuc, no_items, no_members, null, number, object, PlainTextsStand, pos, refl, string, suc, sum_by, TextsAreEscaped, true, unsigned, written_length, ℕ, ◌%◌, ◌*◌, ◌++◌, ◌+◌, ◌/◌, ◌∷◌, ◌≡◌, ◌≤◌}
+use Rattle.std.proofs.Common.{length-append}
 use Rattle.std.proofs.lemmas.Fmt.{length-decimal-le}
-use Rattle.std.proofs.lemmas.List.Elements.{All-head, All-tail}
 use Rattle.std.proofs.lemmas.List.Sums.{sum_by-cons}
 use Rattle.std.specs.Char.{digit_char}
-use Rattle.std.specs.List.{sum_by}
 use Rattle.json.specs.Print.{escape, escape_byte, escape_letter, quoted}
 use Rattle.json.proofs.Printed.Strings.{escape_byte_plain}
-use Rattle.serde_json.specs.Data.{Data, Items, Members, array, boolean, float, item, member, negative, no_items, no_members, null, number, object, string, unsigned}
 use Rattle.serde_json.specs.Written.{comma_if, compact_text, items_text, members_text}
-use Rattle.message_parts.specs.Forms.{items_of}
 use Rattle.message_parts.specs.Written.{HasSmallNumbers, ItemsHaveSmallNumbers, MembersHaveSmallNumbers}
-use Rattle.text_laws.specs.Lengths.{PlainTextsStand, TextsAreEscaped, written_length}
-use Rattle.text_laws.specs.Texts.{IsPlain, IsPlainByte}
 
 -- ---- texts
 
@@ -46,7 +41,7 @@ plain_texts_stand text h = rw (escape_plain text h) (omega (arith, length-append
 
 -- ---- values
 
--- at most so many bytes
+-- at most this many bytes
 abbrev mutual
   pub size : Data → ℕ
   size null = 4

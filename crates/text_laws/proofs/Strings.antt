@@ -1,12 +1,7 @@
--- What a JSON string stands for is UTF-8, and has no more bytes than stand for it.
-use Rattle.std.proofs.Common.{◌≡◌, ℕ, ◌+◌, ◌<◌, ◌≤◌, Bool, true, false, cond, ◌&&◌, ◌==◌, nat_le, nat_lt, List, [], ◌∷◌, ◌++◌, length, get_or, Option, Some, None, option_and_then, refl, sym, subst, arith}
-use Rattle.std.proofs.lemmas.Bool.{and_parts, eqb-true, leb-true, ltb-true}
-use Rattle.std.proofs.lemmas.Bool.Decides.{nat_tests}
-use Rattle.std.proofs.lemmas.List.{append-nil, append_assoc, drop_at, get_or_at, length-append, take_at}
+-- The text that a JSON string represents is UTF-8, and has no more bytes than the string.
+use Rattle.text_laws.proofs.Common.{[], and_parts, append-nil, append_assoc, arith, Bool, cond, drop_at, eqb-true, false, get_or, get_or_at, IsUtf8, leb-true, length, length-append, List, ltb-true, nat_le, nat_lt, nat_tests, None, Option, option_and_then, refl, Some, subst, sym, take_at, true, ℕ, ⊤, ◌&&◌, ◌++◌, ◌+◌, ◌<◌, ◌==◌, ◌∷◌, ◌≡◌, ◌≤◌}
 use Rattle.std.proofs.lemmas.Str.{IsCharBoundary-after_ascii, IsCharBoundary-before_ascii, IsUtf8-append, IsUtf8-drop, IsUtf8-encode, IsUtf8-take, encode_ascii}
 use Rattle.std.specs.Char.{digit_value, encode_utf8, is_digit}
-use Rattle.std.specs.Str.{IsUtf8}
-use Rattle.std.specs.Prelude.{⊤}
 use lib.Utf8.{low_scalar, scalar}
 use Rattle.json.specs.Text.{Within, after_backslash, after_high, after_u, code_unit, content, is_high_surrogate, is_low_surrogate, plain, prepend, short_escape, surrogate_pair}
 
@@ -39,7 +34,7 @@ text_after before after x small text =
 IsUtf8-byte : (x : ℕ) → x < 128 → IsUtf8 (x ∷ [])
 IsUtf8-byte x small = subst IsUtf8 (encode_ascii x small) (IsUtf8-encode x (low_scalar x (omega arith)))
 
--- what a short escape stands for is a byte of ASCII, and so is its letter
+-- a short escape represents a byte of ASCII, and its letter is one, too
 short_ascii : (x c : ℕ) → short_escape x ≡ Some c → (x < 128) × (c < 128)
 unfolding short_escape
 short_ascii x c found = (grind (arith, nat_tests, found), grind (arith, nat_tests, found))
@@ -84,7 +79,7 @@ after_four a b c d xs digits text =
 
 -- ---- the content of a string
 
--- what comes after some bytes, where anything does, makes a text with them, and has at most so many bytes
+-- what comes after some bytes, where anything does, makes a text with them, and has at most this many bytes
 abbrev pub Continues : List ℕ → ℕ → Option (List ℕ) → Type 0
 Continues before most None = ⊤
 Continues before most (Some s) = IsUtf8 (before ++ s) × (length s ≤ most)
@@ -173,10 +168,6 @@ content_text after_backslash before (x ∷ xs) h =
     longer before (c ∷ []) (length xs) n _ (omega arith)
     (content_text plain (before ++ c ∷ []) xs
     (IsUtf8-append (before ++ c ∷ []) xs (IsUtf8-append before (c ∷ []) h.0 byte) (text_after [] xs x small.0 h.1)))))
-content_text after_u before [] h = tt
-content_text after_u before (a ∷ []) h = tt
-content_text after_u before (a ∷ b ∷ []) h = tt
-content_text after_u before (a ∷ b ∷ c ∷ []) h = tt
 content_text after_u before (a ∷ b ∷ c ∷ d ∷ xs) h =
     let n = length (a ∷ b ∷ c ∷ d ∷ xs) in
     then before n _ (code_unit a b c d) (λ u found.
@@ -206,3 +197,4 @@ content_text (after_high high) before (s ∷ u ∷ a ∷ b ∷ c ∷ d ∷ xs) h
     (λ low. character before xs (surrogate_pair high l) n (of_surrogates high l h.2 low) h.0 rest
     (omega (arith, length-encode (surrogate_pair high l))) (content_text plain (before ++ encode_utf8 (surrogate_pair high l)) xs))
     (λ not_low. tt))) (λ other. tt)
+content_text after_u before _ h = tt

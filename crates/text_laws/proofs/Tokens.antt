@@ -1,30 +1,21 @@
 -- Each text of a token is in the bytes that it was read from, and there are about as many tokens as bytes at most.
-use Rattle.std.proofs.Common.{◌≡◌, ℕ, suc, ◌+◌, ◌≤◌, Bool, true, false, cond, ◌==◌, ◌&&◌, nat_eq, List, [], ◌∷◌, ◌++◌, length, drop, Option, Some, None, refl, subst, sym, arith}
-use Rattle.std.proofs.lemmas.Bool.{eqb-true}
-use Rattle.std.proofs.lemmas.List.{append_assoc}
-use Rattle.std.specs.List.{starts_with}
-use Rattle.std.specs.Prelude.{⊤, IfSome}
-use Rattle.std.specs.Str.{IsUtf8}
+use Rattle.text_laws.proofs.Common.{[], append_assoc, arith, Bool, cond, drop, eqb-true, false, IfSome, IsTextWithin, IsUtf8, length, List, nat_eq, None, Option, refl, Some, starts_with, subst, suc, sym, true, ℕ, ⊤, ◌&&◌, ◌++◌, ◌+◌, ◌==◌, ◌∷◌, ◌≡◌, ◌≤◌}
 use Rattle.json.specs.Ascii as ascii
 use Rattle.json.specs.Lex.{Class, Lexeme, Mode, Place, after_comma, after_key, after_value, backslash, begins_colon, between, class, colon, comma, fresh, if_allowed, in_escape, in_string, in_word, lex, lex_byte, may_begin, may_close, operator, operator_lexeme, other, place_token, punctuate, quote, space, string_token, token, tokens}
 use Rattle.json.specs.Text.{content, plain}
 use Rattle.json.specs.Token.{Token}
 use Rattle.json.specs.Word.{after_number, ends_word, head, is_operator, is_space, literal, number_before, word}
-use Rattle.text_laws.specs.Texts.{IsTextWithin}
 use Rattle.text_laws.proofs.Strings.{Continues, content_text, text_after}
 
--- the text of a token, if it has one, has at most so many bytes
+-- the text of a token, if it has one, has at most this many bytes
 abbrev pub HasText : ℕ → Token → Type 0
-HasText most Token.begin_object = ⊤
-HasText most Token.end_object = ⊤
-HasText most Token.begin_array = ⊤
-HasText most Token.end_array = ⊤
 HasText most (Token.key s) = IsTextWithin most s
 HasText most (Token.string s) = IsTextWithin most s
 HasText most (Token.number s) = ⊤
 HasText most (Token.boolean b) = ⊤
 HasText most Token.null = ⊤
 HasText most Token.bad = ⊤
+HasText most _ = ⊤
 
 -- the same of each of them
 abbrev pub HaveTexts : ℕ → List Token → Type 0
@@ -33,7 +24,7 @@ HaveTexts most (t ∷ ts) = HasText most t × HaveTexts most ts
 
 -- ---- lexemes
 
--- the text of a lexeme, if it has one, has at most so many bytes
+-- the text of a lexeme, if it has one, has at most this many bytes
 abbrev IsRead : ℕ → Lexeme → Type 0
 IsRead most (token t) = HasText most t
 IsRead most comma = ⊤
@@ -150,7 +141,7 @@ length-lex m (x ∷ xs) = byte_counts (length xs) m (class x) x xs (λ next. lex
 
 -- ---- commas and colons
 
--- the tokens of so many lexemes
+-- the tokens of this many lexemes
 abbrev Punctuated : ℕ → ℕ → List Token → Type 0
 Punctuated most count ts = HaveTexts most ts × (length ts ≤ count + 1)
 

@@ -1,12 +1,9 @@
 -- Each text of a JSON value is in the bytes that it was read from, and no array has more items than they are.
-use Rattle.std.proofs.Common.{ℕ, zero, suc, ◌+◌, ◌<◌, ◌≤◌, List, [], ◌∷◌, length, Option, Some, None, option_and_then, arith}
-use Rattle.std.specs.Prelude.{⊤, IfSome}
-use Rattle.std.specs.Str.{IsUtf8}
+use Rattle.text_laws.proofs.Common.{[], arith, IfSome, IsTextWithin, IsUtf8, length, List, None, Option, option_and_then, Some, suc, zero, ℕ, ⊤, ◌+◌, ◌<◌, ◌∷◌, ◌≤◌}
 use Rattle.json.specs.Json as json
 use Rattle.json.specs.Json.{Parse, after_end_array, if_last, items_step, members_step, parse_map, read_key, value_with}
 use Rattle.json.specs.Lex.{tokens}
 use Rattle.json.specs.Token.{Token}
-use Rattle.text_laws.specs.Texts.{IsTextWithin}
 use Rattle.text_laws.proofs.Tokens.{HaveTexts, tokens_within}
 
 -- how many items there are
@@ -14,7 +11,7 @@ abbrev pub count : json.Items → ℕ
 count json.no_items = 0
 count (json.item j js) = suc (count js)
 
--- each text has at most so many bytes, and each array so many items
+-- each text has at most this many bytes, and each array at most this many items
 abbrev mutual
   pub IsWithin : ℕ → json.Json → Type 0
   IsWithin most json.null = ⊤
@@ -32,12 +29,12 @@ abbrev mutual
   AreMembersWithin most json.no_members = ⊤
   AreMembersWithin most (json.member k j ms) = IsWithin most j × AreMembersWithin most ms
 
--- What is parsed has P and its size, together with the tokens that are left, is at most as much as there was.
+-- What is parsed has P, and its size and the tokens that are left come to no more than the tokens before.
 abbrev Parsed : {A : Type 0} → (A → Type 0) → (A → ℕ) → ℕ → ℕ → Option (A × List Token) → Type 0
 Parsed P size most n None = ⊤
 Parsed P size most n (Some p) = P p.0 × HaveTexts most p.1 × (size p.0 + length p.1 ≤ n)
 
--- the same of whatever tokens there are, of which there are few enough
+-- the same of whatever tokens there are, if they are few enough
 abbrev Parses : {A : Type 0} → (A → Type 0) → (A → ℕ) → ℕ → Parse A → Type 0
 Parses P size most parse = (ts : List Token) → HaveTexts most ts → length ts ≤ suc most → Parsed P size most (length ts) (parse ts)
 
@@ -58,10 +55,6 @@ none ms = 0
 
 after_end : (most : ℕ) (ts : List Token) → HaveTexts most ts
     → IfSome (after_end_array ts) (λ rest. HaveTexts most rest × (length rest < length ts))
-after_end most [] h = tt
-after_end most (Token.begin_object ∷ ts) h = tt
-after_end most (Token.end_object ∷ ts) h = tt
-after_end most (Token.begin_array ∷ ts) h = tt
 after_end most (Token.end_array ∷ ts) h = (h.1, omega arith)
 after_end most (Token.key s ∷ ts) h = tt
 after_end most (Token.string s ∷ ts) h = tt
@@ -69,6 +62,7 @@ after_end most (Token.number s ∷ ts) h = tt
 after_end most (Token.boolean b ∷ ts) h = tt
 after_end most (Token.null ∷ ts) h = tt
 after_end most (Token.bad ∷ ts) h = tt
+after_end most _ h = tt
 
 after_key : (most : ℕ) (ts : List Token) → HaveTexts most ts → IfSome (read_key ts) (λ p. HaveTexts most p.1 × (length p.1 < length ts))
 after_key most [] h = tt
@@ -77,11 +71,7 @@ after_key most (Token.end_object ∷ ts) h = (h.1, omega arith)
 after_key most (Token.begin_array ∷ ts) h = tt
 after_key most (Token.end_array ∷ ts) h = tt
 after_key most (Token.key s ∷ ts) h = (h.1, omega arith)
-after_key most (Token.string s ∷ ts) h = tt
-after_key most (Token.number s ∷ ts) h = tt
-after_key most (Token.boolean b ∷ ts) h = tt
-after_key most (Token.null ∷ ts) h = tt
-after_key most (Token.bad ∷ ts) h = tt
+after_key most _ h = tt
 
 -- a value, and then more
 and_more : {B : Type 0} (Q : B → Type 0) (size : B → ℕ) (most n : ℕ) (join : json.Json → B → B)
@@ -141,10 +131,8 @@ one_level most a o items members (Token.begin_array ∷ ts) h le =
 one_level most a o items members (Token.end_array ∷ ts) h le = tt
 one_level most a o items members (Token.key s ∷ ts) h le = tt
 one_level most a o items members (Token.string s ∷ ts) h le = (h.0, h.1, omega arith)
-one_level most a o items members (Token.number s ∷ ts) h le = (tt, h.1, omega arith)
-one_level most a o items members (Token.boolean b ∷ ts) h le = (tt, h.1, omega arith)
-one_level most a o items members (Token.null ∷ ts) h le = (tt, h.1, omega arith)
 one_level most a o items members (Token.bad ∷ ts) h le = tt
+one_level most a o items members _ h le = (tt, h.1, omega arith)
 
 parses_values : (most d : ℕ) → Parses (IsWithin most) one most (json.value d)
 unfolding json.value

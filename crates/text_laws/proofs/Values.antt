@@ -1,16 +1,13 @@
 -- The same of the value that a text is read as, and of what is found in it.
-use Rattle.std.proofs.Common.{◌≡◌, ℕ, suc, ◌≤◌, List, length, Option, Some, None, option_and_then, option_map, Ordering, Less, Equal, Greater, refl, sym, ap, ◌∙◌, subst}
+use Rattle.text_laws.proofs.Common.{ap, array, boolean, Data, Equal, Greater, IfSome, IsTextWithin, item, Items, length, Less, List, member, Members, no_items, no_members, None, null, number, object, Option, option_and_then, option_map, Ordering, put, refl, Some, string, subst, suc, sym, ℕ, ⊤, ◌∙◌, ◌≡◌, ◌≤◌}
 use Rattle.std.specs.Ordering.{match_ordering, nat_cmp}
 use Rattle.std.specs.Cmp.Lexicographic.{slice_cmp}
-use Rattle.std.specs.Prelude.{⊤, IfSome}
 use Rattle.json.specs.Json as json
-use Rattle.serde_json.specs.Data.{Data, Items, Members, array, boolean, item, member, no_items, no_members, null, number, object, put, string}
 use Rattle.serde_json.specs.Find.{as_array, as_object, as_str, get_member}
 use Rattle.serde_json.specs.Read.{max_depth, number_of, of_items, of_json, of_members, read}
 use Rattle.protocol.specs.Json.{json_of}
 use Rattle.protocol.specs.Properties.{non_null, property}
 use Rattle.protocol.proofs.JsonTexts.{json_of-is_utf8, json_of-text}
-use Rattle.text_laws.specs.Texts.{IsTextWithin}
 use Rattle.text_laws.proofs.Trees as trees
 use Rattle.text_laws.proofs.Trees.{tree_within}
 
@@ -19,7 +16,7 @@ abbrev pub count : Items → ℕ
 count no_items = 0
 count (item d ds) = suc (count ds)
 
--- each text has at most so many bytes, and each array so many items
+-- each text has at most this many bytes, and each array at most this many items
 abbrev mutual
   pub IsWithin : ℕ → Data → Type 0
   IsWithin most null = ⊤
@@ -71,7 +68,7 @@ map_any : {A B : Type 0} (Q : B → Type 0) (f : A → B) (found : Option A) →
 map_any Q f None on = tt
 map_any Q f (Some a) on = on a
 
--- so many items, and what each is
+-- this many items, and what each is
 abbrev AreSoMany : ℕ → ℕ → Items → Type 0
 AreSoMany most n ds = (count ds ≡ n) × AreItemsWithin most ds
 
@@ -139,7 +136,6 @@ non_null_within most (string s) h = h
 non_null_within most (array ds) h = h
 non_null_within most (object ms) h = h
 
--- a property
 pub property_within : (most : ℕ) (name : List ℕ) (ms : Members) → AreMembersWithin most ms
     → IfSome (property name ms) (IsWithin most)
 property_within most name ms h =
@@ -154,7 +150,6 @@ as_str_within most (string s) h = h
 as_str_within most (array ds) h = tt
 as_str_within most (object ms) h = tt
 
--- an object
 pub as_object_within : (most : ℕ) (d : Data) → IsWithin most d → IfSome (as_object d) (AreMembersWithin most)
 as_object_within most null h = tt
 as_object_within most (boolean b) h = tt

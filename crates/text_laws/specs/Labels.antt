@@ -7,7 +7,7 @@ use Rattle.assembler.specs.Assembled.{assembled}
 use Rattle.assembler.specs.Placed.{error_of}
 use Rattle.text_laws.specs.Texts.{IsPlain, IsTextWithin}
 
--- a name of at most so many bytes
+-- a name of at most this many bytes
 abbrev pub IsNameWithin : ℕ → List ℕ → Type 0
 IsNameWithin most name = IsPlain name × IsTextWithin most name
 

@@ -45,7 +45,7 @@ abbrev pub written_length_if : Option (List ℕ) → ℕ
 written_length_if None = 0
 written_length_if (Some text) = written_length text
 
--- ---- the entries of lists: at most so many bytes each
+-- ---- the entries of lists: at most this many bytes each
 
 -- what became of a breakpoint of a source
 abbrev pub most_of_source_breakpoint : SourceBreakpoint → ℕ
@@ -116,7 +116,7 @@ abbrev pub most_bytes : Message → ℕ
 most_bytes (message.Response response) = 1000 + written_length response.command + most_of_outcome response.outcome
 most_bytes (message.Event event) = 1000 + most_of_event event
 
--- The text of a message has at most so many bytes.
+-- The text of a message has at most this many bytes.
 abbrev pub TextsAreBounded : Type 0
 TextsAreBounded = (seq : ℕ) (message : Message) → IsNumber seq → IsProper message
     → length (text_of seq message) ≤ most_bytes message

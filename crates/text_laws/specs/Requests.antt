@@ -1,8 +1,8 @@
 -- The texts of a request that is read (base protocol, "Content Part").
 --
 -- The body of a frame is bytes. Each text that a request has was read from them, so it is UTF-8 as JSON texts are
--- (RFC 8259, section 8.1), and it has at most as many bytes as the body: an escape is no shorter than what it stands
--- for. A list has at most as many entries as the body has bytes.
+-- (RFC 8259, section 8.1), and it has at most as many bytes as the body: an escape is no shorter than what it
+-- represents. A list has at most as many entries as the body has bytes.
 use Rattle.std.specs.Prelude.{ℕ, ◌≤◌, All, IfSome, List, length, Ok, Err, Result, ⊤}
 use Rattle.protocol.specs.Reading.{incoming_of}
 use Rattle.protocol.specs.declared.command.Command.{Command}
@@ -18,7 +18,7 @@ use Rattle.text_laws.specs.Texts.{IsTextWithin}
 abbrev pub WritesWithin : ℕ → SourceBreakpoint → Type 0
 WritesWithin most breakpoint = IfSome breakpoint.log_message (IsTextWithin most)
 
--- the path of a program is such a text, as is what logpoints write, and a list of breakpoints has at most so many entries
+-- the path of a program is such a text, as is what logpoints write, and a list of breakpoints has at most this many entries
 abbrev pub AsksWithin : ℕ → Command → Type 0
 AsksWithin most (Launch arguments) = IsTextWithin most arguments.program
 AsksWithin most (SetBreakpoints arguments) =

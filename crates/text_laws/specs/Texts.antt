@@ -2,7 +2,7 @@
 use Rattle.std.specs.Prelude.{◌≢◌, ℕ, ◌≤◌, All, List, length}
 use Rattle.std.specs.Str.{IsUtf8}
 
--- a text of at most so many bytes
+-- a text of at most this many bytes
 abbrev pub IsTextWithin : ℕ → List ℕ → Type 0
 IsTextWithin most text = IsUtf8 text × (length text ≤ most)
 

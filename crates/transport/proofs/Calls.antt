@@ -1,11 +1,8 @@
 -- Call after call of a server.
-use Rattle.std.proofs.Common.{◌≡◌, ℕ, ◌+◌, suc, List, [], ◌∷◌, ◌++◌, length, Option, Some, None, IfSome, Result, Ok, Err, inl, inr, refl, sym, ap, ◌∙◌, subst, arith, append_assoc}
-use Rattle.std.specs.Io.KnownBytes.{Appends}
-use Rattle.std.proofs.KnownBytes.{Appends-nil, Appends-trans}
+use Rattle.transport.proofs.Common.{[], ap, append_assoc, Appends, Appends-nil, Appends-trans, arith, Err, IfSome, inl, inr, length, List, None, Ok, Option, Queued, refl, Result, Some, subst, suc, sym, ℕ, ◌++◌, ◌+◌, ◌∙◌, ◌∷◌, ◌≡◌}
 use Rattle.protocol.specs.declared.request.Incoming.{Incoming}
 use Rattle.replies.specs.declared.message.Message.{Message as AMessage}
 use Rattle.queues.specs.Writing.{frame_of}
-use Rattle.transport.specs.Outbox.{Queued}
 use Rattle.transport.specs.Servers.{Writes}
 use Rattle.transport.specs.declared.server.ServerError.{ServerError}
 use Rattle.transport.specs.declared.server.ServerError.TheVariants.{Frame, Message, Read, Write, TooManyReads, NoMemory, SeqSpent}

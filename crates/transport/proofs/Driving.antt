@@ -1,31 +1,12 @@
 -- Round by round over a wire, until driving ends.
-use Rattle.std.proofs.Common.{◌≡◌, ℕ, ◌+◌, ◌≤◌, ◌<◌, List, [], ◌∷◌, ◌++◌, length, take, drop, Bool, true, false, ltb, Option, Result, Ok, Err, refl, sym, ap, ◌∙◌, subst, arith, append-nil, take-append-drop}
-use Rattle.std.specs.Io.KnownBytes.{Consumes, Appends, IsAtEnd}
-use Rattle.std.specs.Prelude.{IfOk}
-use Rattle.std.proofs.KnownBytes.{Consumes-nil, Appends-nil, Consumes-trans, Appends-trans}
-use Rattle.std.proofs.lemmas.List.{length-append, length-take-le}
-use Rattle.std.proofs.lemmas.Bool.Decides.{nat_tests}
-use Rattle.transport.specs.declared.end.DriveEnd.{DriveEnd}
-use Rattle.transport.specs.declared.end.DriveEnd.TheVariants.{Closed, Fault, Turns, NoMemory as OutOfMemory}
+use Rattle.transport.proofs.Common.{[], after_round, after_rounds, AllSaid, AlreadyConnected, Answer, answered, ap, append-nil, Appends, Appends-nil, Appends-trans, AreRounds, AreUnused, arith, Bool, BreaksOff, Busy, CallFailed, Cause, Closed, Closing, Consumes, Consumes-nil, Consumes-trans, counted, Did, DriveEnd, Driven, DrivenTold, Driving, drop, DropConnection, DroveFor, due, Due, due_in, Effect, Err, Event, EventError, events_by, events_in, events_of, failed_by, false, Fault, GoesOn, Happens, HasBegun, held_after, histories, Hold, holds, idle_after, idle_after_rounds, idle_by, idle_looked, IfOk, InputEnded, is_finished, is_held, is_runnable, IsAtEnd, IsCause, IsGiven, IsRound, IsTaken, Kept, Known, known, KnownEvents, KnownReads, Leave, length, length-append, length-take-le, Line, List, ltb, MayCome, MayFail, Moved, moves_granted, moves_made, nat_tests, NoAnswer, NoMemory as OutOfMemory, NoRoom, NotConnected, OfEach, Ok, one_more, Option, Passed, PieceLost, PieceTooLong, Ran, read_for, reads, reads_in, Receive, received, received_in, Records, Recv, refl, Result, Round, Run, see_kept, Send, Sent, sent, sent_in, SentTooMuch, Session, since_round, since_rounds, Slice, Sliced, sliced, Spent, Stands, Stops, subst, sym, take, take-append-drop, TimeCut, true, Turn, Turns, turns_of, TurnsMade, unused_by, waits_after_rounds, waits_at, waits_by, wanted, wanted_on, Went, ℕ, ◌++◌, ◌+◌, ◌<◌, ◌∙◌, ◌∷◌, ◌≡◌, ◌≤◌}
 use Rattle.session.specs.declared.event.Applied.TheVariants as applied
 use Rattle.session.specs.declared.event.SliceEnd.TheVariants as ending
-use Rattle.session.specs.declared.event.Event.{Event}
-use Rattle.session.specs.declared.event.Event.TheVariants.{Hold, Recv, Turn, Slice, Sent, DropConnection}
-use Rattle.session.specs.declared.event.EventError.{EventError}
-use Rattle.session.specs.declared.event.EventError.TheVariants.{NotConnected, AlreadyConnected, Busy, SentTooMuch, PieceTooLong, Closing, NoMemory, Spent}
-use Rattle.session.specs.declared.event.Sliced.{Sliced}
+use Rattle.session.specs.declared.event.EventError.TheVariants.{NoMemory}
 use Rattle.session.specs.declared.event.Turned.{Turned}
-use Rattle.session.specs.Effects.{BreaksOff, sliced}
-use Rattle.session.specs.Kept.{Kept, OfEach, Stands, Happens, answered, see_kept}
-use Rattle.session.specs.Outcomes.{is_finished, wanted_on}
 use Rattle.session.specs.Prefixes.{IsPrefixOf}
-use Rattle.session.specs.Sessions.{Session, Effect, histories}
-use Rattle.session.specs.Slices.{is_runnable}
-use Rattle.wires.specs.Wires.{Line, Moved, one_more}
-use Rattle.transport.specs.Files.{KnownReads, Records}
-use Rattle.transport.specs.Rounds.{IsGiven, read_for, wanted, Took, Due, Send, Leave, Answer, Run, Receive, due, due_in, Round, Did, Ran, IsTaken, after_round, after_rounds, received_in, received, sent_in, sent, reads_in, reads, since_round, since_rounds, counted, held_after, moves_granted, moves_made}
-use Rattle.transport.specs.Told.{Known, KnownEvents, known, events_in, events_of, told_by, told_of_piece, holds}
-use Rattle.transport.specs.Drives.{MayCome, MayFail, is_held, IsRound, AreRounds, idle_looked, idle_after, idle_after_rounds, waits_at, waits_after_rounds, Cause, AllSaid, InputEnded, CallFailed, NoRoom, NoAnswer, PieceLost, TimeCut, TurnsMade, failed_by, unused_by, events_by, idle_by, waits_by, AreUnused, IsCause, Driven, DrivenTold, turns_of, HasBegun, DroveFor, Passed, GoesOn, Stops, Went, Driving}
+use Rattle.transport.specs.Private.Rounds.{Took}
+use Rattle.transport.specs.Private.Told.{told_by, told_of_piece}
 use Rattle.transport.proofs.FileReads.{Records-nil, Records-trans, records_as, unused}
 use Rattle.transport.proofs.RoundLemmas.{happened, due_there, wanted_there, Goes, goes_with, breaks_off, after_rounds-append, received-append, sent-append, reads-append, events-append, since_rounds-append}
 use Rattle.transport.proofs.Taking.{send_test, takes_sent, takes_turn, takes_received, takes_running}
@@ -246,11 +227,9 @@ may_come_there polls k s d st e may = subst (MayCome polls) (sym (due_there k s 
 
 takes_piece : (polls : Bool) (s : Session) (piece : List ℕ) (d : Due) → due_in s ≡ d → MayCome polls d → length piece ≤ 65536
     → IsTaken s (Recv piece)
-takes_piece polls s piece Send e may few = absurd may
-takes_piece polls s piece Leave e may few = absurd may
-takes_piece polls s piece Answer e may few = absurd may
 takes_piece polls s piece Run e may few = takes_running (histories.see s) piece e few
 takes_piece polls s piece Receive e may few = takes_received (histories.see s) piece e few
+takes_piece polls s piece _ e may few = absurd may
 
 -- a piece came, and was taken; or no memory was left for it
 piece_came : (past : KnownReads) (t u : KnownEvents) (since : ℕ) (old new : Line) (k kept : Kept) (d : Due) (piece : List ℕ) (result : Result ℕ DriveEnd)
@@ -304,11 +283,9 @@ input_ended past t u old new k kept d e may m at_end dropped told s st = record 
 }
 
 may_fail : (polls : Bool) (d : Due) (waiting : List ℕ) → MayCome polls d → MayFail polls d waiting []
-may_fail polls Send waiting may = absurd may
-may_fail polls Leave waiting may = absurd may
-may_fail polls Answer waiting may = absurd may
 may_fail polls Run waiting may = (may, refl)
 may_fail polls Receive waiting may = refl
+may_fail polls _ waiting may = absurd may
 
 -- a look or a wait failed
 pub comes_fail : (past : KnownReads) (t u : KnownEvents) (old new : Line) (k kept : Kept) (d : Due) → due (see_kept k) ≡ d → MayCome old.polls d
@@ -425,9 +402,6 @@ goes_on_with f g h a b c made since s k new result next e went waits v =
 in_its_turn : (polls : Bool) (cause : Cause) (left : Option (List ℕ)) (s : Session) (n : ℕ) (d : Due) (waits : ℕ)
     → ((turns made : ℕ) → IsCause polls cause left turns made s)
     → HasBegun cause × (turns_of cause n ≡ n + 1) × (waits_by cause d waits ≡ waits_at d waits)
-in_its_turn polls AllSaid left s n d waits h = (tt, refl, refl)
-in_its_turn polls InputEnded left s n d waits h = (tt, refl, refl)
-in_its_turn polls (CallFailed part) left s n d waits h = (tt, refl, refl)
 in_its_turn polls NoRoom left s n d waits h = absurd (one_is_none (h 0 1)) where
   one_is_none : (let n : ℕ = 1 in n) ≡ 0 → ⊥
   one_is_none e = omega arith
@@ -437,6 +411,7 @@ in_its_turn polls TimeCut left s n d waits h = (tt, refl, refl)
 in_its_turn polls TurnsMade left s n d waits h = absurd (one_is_none (h 0 1)) where
   one_is_none : (let n : ℕ = 1 in n) ≡ 0 → ⊥
   one_is_none e = omega arith
+in_its_turn polls _ left s n d waits h = (tt, refl, refl)
 
 ends_after : (f g h : Known) (a b c : Line) (made since turns taken : ℕ) (s : Session) (k new : Kept) (end : DriveEnd) → made < turns
     → taken ≡ made + 1 → (v : Driving f g a b made since s k)

@@ -1,8 +1,5 @@
 -- The reads that files answered, one after the other.
-use Rattle.std.proofs.Common.{◌≡◌, ℕ, List, [], ◌++◌, Option, Some, None, refl, sym, ap, ◌∙◌, subst, append-nil, append_assoc}
-use Rattle.transport.specs.Files.{Records}
-use Rattle.transport.specs.Rounds.{IsGiven, read_for}
-use Rattle.transport.specs.Drives.{AreUnused}
+use Rattle.transport.proofs.Common.{[], ap, append-nil, append_assoc, AreUnused, IsGiven, List, None, Option, read_for, Records, refl, Some, subst, sym, ℕ, ◌++◌, ◌∙◌, ◌≡◌}
 
 -- nothing more is known
 pub Records-nil : {X : Type 0} (a : Option (List X)) → Records a a []

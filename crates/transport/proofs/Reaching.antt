@@ -1,22 +1,10 @@
 -- What driving and serving lead to.
-use Rattle.std.proofs.Common.{◌≡◌, ℕ, ◌+◌, List, [], ◌∷◌, ◌++◌, true, false, inl, inr, refl, sym, ap, ◌∙◌, subst}
-use Rattle.std.specs.Prelude.{◌⊎◌}
+use Rattle.transport.proofs.Common.{[], after_all, after_round, after_rounds, AllSaid, ap, CallFailed, Cause, Connect, Did, DriveEnd, DropConnection, Effect, end_of, Event, events_by, events_of, false, histories, Hold, inl, InputEnded, inr, Kept, Leaves, Line, List, moves_granted, NoAnswer, NoMemory, NoRoom, PieceLost, Ran, refl, Round, RunsOut, Session, Slice, Stands, subst, sym, TimeCut, true, TurnsMade, ℕ, ◌++◌, ◌+◌, ◌∙◌, ◌∷◌, ◌≡◌, ◌⊎◌}
 use Rattle.session.proofs.Reaching.{led_append}
-use Rattle.session.specs.Kept.{Kept, Stands}
 use Rattle.session.specs.Reached.{Happened, Whole, Cut, leaves, led_to}
-use Rattle.session.specs.Effects.{after_all}
-use Rattle.session.specs.Sessions.{Session, Effect, histories}
 use Rattle.session_laws.proofs.Joined.{slices_join}
-use Rattle.session.specs.declared.event.Event.{Event}
-use Rattle.session.specs.declared.event.Event.TheVariants.{Connect, Slice, Hold, DropConnection}
-use Rattle.transport.specs.declared.end.DriveEnd.{DriveEnd}
-use Rattle.transport.specs.declared.end.DriveEnd.TheVariants.{NoMemory}
-use Rattle.transport.specs.Told.{events_of}
-use Rattle.transport.specs.Drives.{Cause, AllSaid, InputEnded, CallFailed, NoRoom, NoAnswer, PieceLost, TimeCut, TurnsMade, Leaves, end_of, events_by}
 use Rattle.transport.specs.Reaching.{AreJoined, DrivingLeads, DrivingTells, IsLedTo, JoinedLeadToTheSame, ServingLeads, ServingTells}
-use Rattle.transport.specs.Rounds.{Round, Did, Ran, RunsOut, after_round, after_rounds, moves_granted}
 use Rattle.transport.specs.Serving.{Iteration, Unattended, Connection, AreIterations, HasLeft, IsWhy, LeavesBy, LeavesCut, Why, DoorClosed, Refused, DoorFailed, AllMade, NoRoomYet, UnattendedCut, ConnectionCut, after_iteration, after_iterations, end_by, events_at, events_for, events_of_all, turns_in}
-use Rattle.wires.specs.Wires.{Line}
 use Rattle.std.specs.Prelude.{◌-◌, Option}
 
 -- something leads from one session to another
@@ -64,14 +52,12 @@ runs_out_led s t kept led h =
     stands_led s _ kept (and_then s t _ led (by_one (Cut moves_granted h.1.count) t)) h.1.holds
 
 ends_led : (cause : Cause) (s t : Session) (kept : Kept) → Led s t → Leaves cause t kept → IsLedTo s kept
-ends_led AllSaid s t kept led h = dropped_led s t kept led h
-ends_led InputEnded s t kept led h = dropped_led s t kept led h
-ends_led (CallFailed part) s t kept led h = dropped_led s t kept led h
 ends_led NoRoom s t kept led h = stands_led s t kept led h
 ends_led (NoAnswer unused) s t kept led h = stands_led s t kept led h
 ends_led (PieceLost piece) s t kept led h = dropped_led s t kept led h
 ends_led TimeCut s t kept led h = runs_out_led s t kept led h
 ends_led TurnsMade s t kept led h = stands_led s t kept led h
+ends_led _ s t kept led h = dropped_led s t kept led h
 
 pub driving_leads : DrivingLeads
 driving_leads before after old new turns s kept end d =
@@ -124,14 +110,12 @@ rounds_then s rounds events = after-append (events_of rounds) events s ∙ ap (a
 
 end_told : (cause : Cause) (t : Session) (kept : Kept) → Leaves cause t kept
     → (end_of cause ≡ NoMemory) ⊎ Stands kept (after_all histories (events_by cause) t)
-end_told AllSaid t kept l = inr l
-end_told InputEnded t kept l = inr l
-end_told (CallFailed part) t kept l = inr l
 end_told NoRoom t kept l = inl refl
 end_told (NoAnswer unused) t kept l = inl refl
 end_told (PieceLost piece) t kept l = inl refl
 end_told TimeCut t kept l = inl refl
 end_told TurnsMade t kept l = inr l
+end_told _ t kept l = inr l
 
 either : (cause end : DriveEnd) (kept : Kept) (t u : Session) → cause ≡ end → u ≡ t → (cause ≡ NoMemory) ⊎ Stands kept t
     → (end ≡ NoMemory) ⊎ Stands kept u
@@ -148,14 +132,12 @@ driving_tells before after old new turns s kept end d = (
 
 connection_told : (s : Session) (rounds : List Round) (cause : Cause) → HasLeft cause
     → after_all histories (events_for rounds cause) s ≡ Effect (after_rounds (Effect s Connect) rounds) DropConnection
-connection_told s rounds AllSaid left = rounds_then (Effect s Connect) rounds (DropConnection ∷ [])
-connection_told s rounds InputEnded left = rounds_then (Effect s Connect) rounds (DropConnection ∷ [])
-connection_told s rounds (CallFailed part) left = rounds_then (Effect s Connect) rounds (DropConnection ∷ [])
 connection_told s rounds NoRoom left = absurd left
 connection_told s rounds (NoAnswer unused) left = absurd left
 connection_told s rounds (PieceLost piece) left = absurd left
 connection_told s rounds TimeCut left = absurd left
 connection_told s rounds TurnsMade left = absurd left
+connection_told s rounds _ left = rounds_then (Effect s Connect) rounds (DropConnection ∷ [])
 
 iterations_told : (turns : ℕ) (s : Session) (iterations : List Iteration) → AreIterations turns s iterations
     → after_all histories (events_of_all iterations) s ≡ after_iterations s iterations

@@ -1,25 +1,14 @@
 -- What a round does to a session.
-use Rattle.std.proofs.Common.{◌≡◌, ℕ, zero, suc, ◌≤◌, List, [], ◌∷◌, ◌++◌, Bool, true, false, cond, leb, Option, Some, None, Result, Ok, Err, refl, sym, ap, ◌∙◌, subst, arith, append_assoc}
-use Rattle.std.specs.Prelude.{IfOk}
-use Rattle.std.proofs.lemmas.Bool.Decides.{nat_tests}
-use Rattle.transport.specs.declared.end.DriveEnd.{DriveEnd}
-use Rattle.transport.specs.declared.end.DriveEnd.TheVariants.{NoMemory as OutOfMemory}
+use Rattle.transport.proofs.Common.{[], after_round, after_rounds, AlreadyConnected, answered, ap, append_assoc, arith, Bool, BreaksOff, Busy, Closing, cond, counted, DriveEnd, DropConnection, due, Due, due_in, Effect, EndsWell, Err, Event, EventError, events_in, events_of, false, Happens, histories, IfOk, Kept, KnownEvents, leb, List, nat_tests, NoMemory as OutOfMemory, None, NotConnected, Ok, Option, PieceTooLong, ran_out, reads, reads_in, received, received_in, Records, Recv, refl, Result, Round, see_kept, sent, sent_in, SentTooMuch, Session, since_round, since_rounds, Slice, slice_answer, Sliced, sliced, Some, Spent, Stands, subst, suc, sym, true, wanted, wanted_on, zero, ℕ, ◌++◌, ◌∙◌, ◌∷◌, ◌≡◌, ◌≤◌}
 use Rattle.session.specs.declared.event.Applied.{Applied}
 use Rattle.session.specs.declared.event.Applied.TheVariants as applied
 use Rattle.session.specs.declared.event.SliceEnd.{SliceEnd}
 use Rattle.session.specs.declared.event.SliceEnd.TheVariants as ending
-use Rattle.session.specs.declared.event.Event.{Event}
-use Rattle.session.specs.declared.event.Event.TheVariants.{Recv, Slice, DropConnection}
-use Rattle.session.specs.declared.event.EventError.{EventError}
-use Rattle.session.specs.declared.event.EventError.TheVariants.{NotConnected, AlreadyConnected, Busy, SentTooMuch, PieceTooLong, Closing, NoMemory, Spent}
-use Rattle.session.specs.declared.event.Sliced.{Sliced}
-use Rattle.session.specs.Effects.{BreaksOff, EndsWell, ran_out, slice_answer, sliced}
-use Rattle.session.specs.Kept.{Kept, Stands, Happens, answered, see_kept}
-use Rattle.session.specs.Outcomes.{wanted_on}
-use Rattle.session.specs.Sessions.{Session, Effect, Answer as answer_of, histories}
-use Rattle.transport.specs.Files.{Records}
-use Rattle.transport.specs.Told.{KnownEvents, events_in, events_of, told_by}
-use Rattle.transport.specs.Rounds.{Took, Due, due, due_in, Round, after_round, after_rounds, received_in, received, sent_in, sent, reads_in, reads, since_round, since_rounds, counted, moves_granted, wanted}
+use Rattle.session.specs.declared.event.EventError.TheVariants.{NoMemory}
+use Rattle.session.specs.Sessions.{Answer as answer_of}
+use Rattle.transport.specs.Private.Told.{told_by}
+use Rattle.transport.specs.Rounds.{moves_granted}
+use Rattle.transport.specs.Private.Rounds.{Took}
 
 -- where an event that is no slice is done, this is left
 left_by : (s : Session) (e : Event) (x : Applied) (moved : Option ℕ) (P : Session → Type 0) → moved ≡ None
@@ -54,7 +43,7 @@ found_err r error e n h = n (same (sym e ∙ h)) where
   same : {Y : Type 0} {a b : EventError} → (let r : Result Y EventError = Err a in r) ≡ Err b → a ≡ b
   same h = cc
 
--- what is due is the same for what is kept and for what it stands for
+-- what is due is the same for what is kept and for what it represents
 pub due_there : (k : Kept) (s : Session) (d : Due) → Stands k s → due (see_kept k) ≡ d → due_in s ≡ d
 due_there k s d st e = sym (ap (λ (x : Kept). due (see_kept x)) st) ∙ e
 
@@ -64,7 +53,7 @@ pub above_zero : (n : ℕ) → (n ≡ 0 → ⊥) → 1 ≤ n
 above_zero zero h = absurd (h refl)
 above_zero (suc n) h = omega arith
 
--- what the next answer wants is the same for what is kept and for what it stands for
+-- what the next answer wants is the same for what is kept and for what it represents
 pub wanted_there : (k : Kept) (s : Session) → Stands k s → wanted_on k.now k.now.link ≡ wanted s
 wanted_there k s st = ap (λ (x : Kept). wanted_on x.now x.now.link) st
 
@@ -85,12 +74,8 @@ goes_as k mid n r s a st =
 
 pub goes_with : (k mid : Kept) (n moved : ℕ) (e : SliceEnd) (s : Session) → (e ≡ ending.NoMemory → ⊥)
     → Happens k (Slice n) (Ok (applied.Slice (record { moved = moved; ending = e }))) mid → Stands k s → Goes k mid n moved s
-goes_with k mid n moved ending.Spent s ok h st = let x = h.to_each s st in goes_as k mid n _ s x.0 x.1
-goes_with k mid n moved ending.Full s ok h st = let x = h.to_each s st in goes_as k mid n _ s x.0 x.1
-goes_with k mid n moved ending.Idle s ok h st = let x = h.to_each s st in goes_as k mid n _ s x.0 x.1
-goes_with k mid n moved ending.Stopped s ok h st = let x = h.to_each s st in goes_as k mid n _ s x.0 x.1
-goes_with k mid n moved ending.Ended s ok h st = let x = h.to_each s st in goes_as k mid n _ s x.0 x.1
 goes_with k mid n moved ending.NoMemory s ok h st = absurd (ok refl)
+goes_with k mid n moved _ s ok h st = let x = h.to_each s st in goes_as k mid n _ s x.0 x.1
 
 pub breaks_off : (k mid : Kept) (n moved : ℕ) (e : SliceEnd) (s : Session) → e ≡ ending.NoMemory
     → Happens k (Slice n) (Ok (applied.Slice (record { moved = moved; ending = e }))) mid → Stands k s

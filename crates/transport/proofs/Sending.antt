@@ -1,13 +1,9 @@
 -- Write by write, until all is written.
-use Rattle.std.proofs.Common.{◌≡◌, ℕ, ◌+◌, ◌≤◌, Bool, true, false, length, List, [], ◌++◌, take, drop, Option, Result, Ok, Err, sym, ap, subst, ◌∙◌, append_assoc, append-nil, take-append-drop}
-use Rattle.std.specs.Prelude.{if◌then◌else◌}
-use Rattle.std.proofs.lemmas.List.{drop-append-le}
+use Rattle.transport.proofs.Common.{[], ap, append-nil, append_assoc, Appends, Appends-kept, Appends-trans, Bool, drop, drop-append-le, Err, false, if◌then◌else◌, length, List, Ok, Option, Queued, Result, subst, sym, take, take-append-drop, true, ℕ, ◌++◌, ◌+◌, ◌∙◌, ◌≡◌, ◌≤◌}
 use Rattle.framing.specs.Frames.{minimal_frame}
 use Rattle.replies.specs.Messages.{text_of}
-use Rattle.std.specs.Io.KnownBytes.{Appends}
-use Rattle.std.proofs.KnownBytes.{Appends-trans, Appends-kept}
 use Rattle.replies.specs.declared.message.Message.{Message}
-use Rattle.transport.specs.Outbox.{Queued, queued, Sends, SendsPrefix}
+use Rattle.transport.specs.Private.Outbox.{queued, Sends, SendsPrefix}
 use Rattle.queues.specs.Writing.{frame_of}
 
 -- one write more

@@ -1,13 +1,8 @@
 -- What a server has heard, body by body.
-use Rattle.std.proofs.Common.{◌≡◌, ℕ, Bool, true, false, List, [], ◌∷◌, ◌++◌, filter, map, Option, Some, None, Result, Ok, Err, inl, inr, refl, sym, ap, subst, ◌∙◌, append_assoc, append-nil}
-use Rattle.std.specs.Prelude.{if◌then◌else◌, ◌⊎◌}
-use Rattle.std.proofs.KnownBytes.{Consumes-nil, Consumes-trans}
-use Rattle.std.specs.Io.KnownBytes.{Consumes}
-use Rattle.std.proofs.lemmas.List.{map-append}
+use Rattle.transport.proofs.Common.{[], AllGiven, and_gave, and_read, ap, append-nil, append_assoc, Bool, Consumes, Consumes-nil, Consumes-trans, Err, false, fed, filter, first_of, has_fault, HasHeard, HasRead, Heard, if◌then◌else◌, inl, inr, is_looked_at, IsUnfinished, lent_from, List, map, map-append, messages_of, NeedsMore, NextFails, None, Ok, Option, refl, Result, Some, StandsFor, subst, sym, true, Unframed, Unread, with_lent, ℕ, ◌++◌, ◌∙◌, ◌∷◌, ◌≡◌, ◌⊎◌}
 use Rattle.std.proofs.lemmas.List.Elements.{filter-append}
 use Rattle.framing.specs.Reading.{Tail, Reading, reading_of}
 use Rattle.framing.specs.Reading.Tail.{Partial, Faulty}
-use Rattle.framing.specs.Streams.{Unframed, StandsFor, fed, first_of, lent_from, with_lent}
 use Rattle.framing.proofs.Pasts.{nothing_stands, fed_stands, lent_stands}
 use Rattle.protocol.specs.declared.request.Incoming.{Incoming}
 use Rattle.protocol.specs.declared.request.Incoming.TheVariants.{Request, Bad, Ignored}
@@ -17,10 +12,9 @@ use Rattle.protocol.specs.Reading.{incoming_of, Gives}
 use Rattle.session.specs.declared.TheConstants.{BODY_LIMIT}
 use Rattle.transport.specs.declared.server.ServerError.{ServerError}
 use Rattle.transport.specs.declared.server.ServerError.TheVariants.{Frame, Message, Read, Write, TooManyReads, NoMemory as NoMemoryLeft, SeqSpent}
-use Rattle.transport.specs.Heard.{has_fault}
-use Rattle.transport.specs.Heard.{is_looked_at, messages_of, messages_in, Heard, HasHeard, and_gave, NextFails, Unread, HasRead, AllGiven, IsUnfinished, NeedsMore, and_read}
+use Rattle.transport.specs.Heard.{messages_in}
 use Rattle.transport.specs.Servers.{Polled, Gave, Polls}
-use Rattle.transport.specs.Inbox.{IsEmptied, Takes, polled_of, Reads, Listens}
+use Rattle.transport.specs.Private.Inbox.{IsEmptied, Takes, polled_of, Reads, Listens}
 use Rattle.session_laws.proofs.Firsts.{first_some}
 
 messages_of-append : (xs ys : List (List ℕ)) → messages_of (xs ++ ys) ≡ messages_of xs ++ messages_of ys

@@ -1,27 +1,13 @@
 -- Lemmas on serving: one iteration after the other, until serving ends.
-use Rattle.std.proofs.Common.{◌≡◌, ℕ, ◌+◌, ◌-◌, ◌<◌, ◌≤◌, Bool, List, [], ◌∷◌, ◌++◌, true, Option, Some, None, Result, Ok, Err, refl, sym, ap, ◌∙◌, subst, arith, append-nil, append_assoc, inl, inr}
-use Rattle.std.specs.Prelude.{IsOk, IsErr, ◌⊎◌}
-use Rattle.transport.specs.declared.end.DriveEnd.{DriveEnd}
-use Rattle.transport.specs.declared.end.DriveEnd.TheVariants.{Closed, Fault, Turns, NoMemory as OutOfMemory}
+use Rattle.transport.proofs.Common.{[], after_rounds, AllSaid, AlreadyConnected, answered, ap, append-nil, append_assoc, arith, Bool, BreaksOff, Busy, CallFailed, Cause, Closed, Closing, Connect, DriveEnd, DropConnection, DroveFor, Effect, end_of, Err, EventError, events_by, events_of, Fault, Happens, HasBegun, histories, inl, InputEnded, inr, is_runnable, IsErr, IsLeaving, IsOk, Kept, Known, known, KnownEvents, KnownReads, Leaves, Line, List, moves_granted, NoAnswer, NoMemory as OutOfMemory, None, NoRoom, NotConnected, OfEach, Ok, one_more, Option, outcome_at, performed, PieceLost, PieceTooLong, Records, refl, Result, SentTooMuch, Session, Slice, Sliced, Some, Spent, Stands, subst, sym, TimeCut, true, Turns, TurnsMade, ℕ, ◌++◌, ◌+◌, ◌-◌, ◌<◌, ◌∙◌, ◌∷◌, ◌≡◌, ◌≤◌, ◌⊎◌}
 use Rattle.session.specs.declared.event.Applied.TheVariants as applied
 use Rattle.session.specs.declared.event.SliceEnd.TheVariants as ending
-use Rattle.session.specs.declared.event.Event.TheVariants.{Connect, Slice, DropConnection}
-use Rattle.session.specs.declared.event.EventError.{EventError}
-use Rattle.session.specs.declared.event.EventError.TheVariants.{NotConnected, AlreadyConnected, Busy, SentTooMuch, PieceTooLong, Closing, NoMemory, Spent}
-use Rattle.session.specs.declared.event.Sliced.{Sliced}
+use Rattle.session.specs.declared.event.EventError.TheVariants.{NoMemory}
 use Rattle.session.specs.declared.link.Link.{Link}
-use Rattle.session.specs.Effects.{BreaksOff, performed}
-use Rattle.session.specs.Kept.{Kept, OfEach, Stands, Happens, answered}
-use Rattle.session.specs.Outcomes.{outcome_at}
-use Rattle.session.specs.Sessions.{Session, Effect, Answer as answer_of, histories}
-use Rattle.session.specs.Slices.{is_runnable}
+use Rattle.session.specs.Sessions.{Answer as answer_of}
 use Rattle.wires.specs.Doors.{Doorway, IsEmpty, Loses, Opened}
-use Rattle.wires.specs.Wires.{Line, one_more}
-use Rattle.transport.specs.Files.{KnownReads, Records}
-use Rattle.transport.specs.Rounds.{moves_granted, after_rounds}
-use Rattle.transport.specs.Drives.{Cause, AllSaid, InputEnded, CallFailed, NoRoom, NoAnswer, PieceLost, TimeCut, TurnsMade, end_of, events_by, Leaves, HasBegun, IsLeaving, DroveFor}
-use Rattle.transport.specs.Told.{Known, KnownEvents, known, events_of}
-use Rattle.transport.specs.Serving.{Iteration, Unattended, Connection, HasLeft, IsCut, IsIteration, turns_in, after_iteration, lines_in, reads_within, idle_in, AreIterations, turns_taken, after_iterations, lines_of, reads_of, reads_at, events_within, events_of_all, events_at, idle_after_iterations, waits_while, waits_after_iterations, waits_until, DoorClosed, Refused, DoorFailed, AllMade, NoRoomYet, UnattendedCut, ConnectionCut, Why, failed_at, idle_at, IsWhy, LeavesCut, ServedTold, Iterated, Ended, IteratedOrEnded, ServedSoFar}
+use Rattle.transport.specs.Serving.{Iteration, Unattended, Connection, HasLeft, IsCut, IsIteration, turns_in, after_iteration, lines_in, reads_within, idle_in, AreIterations, turns_taken, after_iterations, lines_of, reads_of, reads_at, events_within, events_of_all, events_at, idle_after_iterations, waits_while, waits_after_iterations, waits_until, DoorClosed, Refused, DoorFailed, AllMade, NoRoomYet, UnattendedCut, ConnectionCut, Why, failed_at, idle_at, IsWhy, LeavesCut, ServedTold}
+use Rattle.transport.specs.Private.Serving.{Iterated, Ended, IteratedOrEnded, ServedSoFar}
 use Rattle.transport.proofs.FileReads.{Records-nil, Records-trans, records_as}
 use Rattle.transport.proofs.RoundLemmas.{Goes, goes_with, breaks_off}
 
@@ -123,13 +109,7 @@ connects k mid r n e h s st =
 refuses : (k mid : Kept) (error : EventError) → (error ≡ NoMemory → ⊥) → Happens k Connect (Err error) mid → (s : Session) → Stands k s
     → IsErr (answer_of s Connect)
 refuses k mid NoMemory n h s st = absurd (n refl)
-refuses k mid NotConnected n h s st = rw (h.to_each s st).0 refl
-refuses k mid AlreadyConnected n h s st = rw (h.to_each s st).0 refl
-refuses k mid Busy n h s st = rw (h.to_each s st).0 refl
-refuses k mid SentTooMuch n h s st = rw (h.to_each s st).0 refl
-refuses k mid PieceTooLong n h s st = rw (h.to_each s st).0 refl
-refuses k mid Closing n h s st = rw (h.to_each s st).0 refl
-refuses k mid Spent n h s st = rw (h.to_each s st).0 refl
+refuses k mid _ n h s st = rw (h.to_each s st).0 refl
 
 pub is_refused : (past : Known) (left : ℕ) (old new : Doorway) (line : Line) (k mid kept : Kept) (r : Result ℕ EventError) (error : EventError)
     → r ≡ Err error → (r ≡ Err NoMemory → ⊥) → Happens k Connect (answered applied.Connect r) mid → kept ≡ k
@@ -167,45 +147,36 @@ dropped_twice s = drops_none (Effect s DropConnection) (no_link s)
 
 cuts : (cause : Cause) (t : Session) (mid kept : Kept) → IsCut cause → Leaves cause t mid
     → OfEach mid (λ u. Stands kept (Effect u DropConnection)) → LeavesCut cause t kept
-cuts AllSaid t mid kept c l d = absurd c
-cuts InputEnded t mid kept c l d = absurd c
-cuts (CallFailed part) t mid kept c l d = absurd c
-cuts NoRoom t mid kept c l d = absurd c
 cuts (NoAnswer unused) t mid kept c l d = d t l
 cuts (PieceLost piece) t mid kept c l d = subst (Stands kept) (dropped_twice t) (d (Effect t DropConnection) l)
 cuts TimeCut t mid kept c l d =
     (l.0, record { count = l.1.count; goes_on = l.1.goes_on; moves = l.1.moves; lacks = l.1.lacks; holds = d _ l.1.holds })
 cuts TurnsMade t mid kept c l d = d t l
+cuts _ t mid kept c l d = absurd c
 
 has_left : (cause : Cause) (t : Session) (mid : Kept) → HasLeft cause → Leaves cause t mid → Stands mid (Effect t DropConnection)
-has_left AllSaid t mid c l = l
-has_left InputEnded t mid c l = l
-has_left (CallFailed part) t mid c l = l
 has_left NoRoom t mid c l = absurd c
 has_left (NoAnswer unused) t mid c l = absurd c
 has_left (PieceLost piece) t mid c l = absurd c
 has_left TimeCut t mid c l = absurd c
 has_left TurnsMade t mid c l = absurd c
+has_left _ t mid c l = l
 
 leaves_by : (cause : Cause) (end : DriveEnd) → end_of cause ≡ end → IsLeaving end → HasLeft cause
-leaves_by AllSaid end e g = tt
-leaves_by InputEnded end e g = tt
-leaves_by (CallFailed part) end e g = tt
 leaves_by NoRoom end e g = absurd (subst IsLeaving (sym e) g)
 leaves_by (NoAnswer unused) end e g = absurd (subst IsLeaving (sym e) g)
 leaves_by (PieceLost piece) end e g = absurd (subst IsLeaving (sym e) g)
 leaves_by TimeCut end e g = absurd (subst IsLeaving (sym e) g)
 leaves_by TurnsMade end e g = absurd (subst IsLeaving (sym e) g)
+leaves_by _ end e g = tt
 
 cut_by : (cause : Cause) (end : DriveEnd) → end_of cause ≡ end → HasBegun cause → (IsLeaving end → ⊥) → IsCut cause
-cut_by AllSaid end e began stays = absurd (stays (subst IsLeaving e tt))
-cut_by InputEnded end e began stays = absurd (stays (subst IsLeaving e tt))
-cut_by (CallFailed part) end e began stays = absurd (stays (subst IsLeaving e tt))
 cut_by NoRoom end e began stays = absurd began
 cut_by (NoAnswer unused) end e began stays = tt
 cut_by (PieceLost piece) end e began stays = tt
 cut_by TimeCut end e began stays = tt
 cut_by TurnsMade end e began stays = tt
+cut_by _ end e began stays = absurd (stays (subst IsLeaving e tt))
 
 pub leaving : (end : DriveEnd) → (end ≡ Closed) ⊎ (end ≡ Fault) → IsLeaving end
 leaving end (inl e) = subst IsLeaving (sym e) tt
@@ -393,13 +364,11 @@ serving_continues f g h a b c turns taken s k new result count e pass waits v =
 -- what ends serving in a call of the door is no reason of before it, nor that of the last turn
 by_a_call : (why : Why) (wires : Option (List Line)) (left : ℕ) (s : Session) (runs : Bool) (waits : ℕ) → 0 < left
     → ((taken : ℕ) → IsWhy why wires left taken s) → waits_until why runs waits ≡ waits_while runs waits
-by_a_call DoorClosed wires left s runs waits some h = refl
-by_a_call (Refused line) wires left s runs waits some h = refl
-by_a_call DoorFailed wires left s runs waits some h = refl
 by_a_call AllMade wires left s runs waits some h = let none : left ≡ 0 = h 0 in absurd (omega arith)
 by_a_call NoRoomYet wires left s runs waits some h = let none : (let n : ℕ = 1 in n) ≡ 0 = h 1 in absurd (omega arith)
 by_a_call UnattendedCut wires left s runs waits some h = refl
 by_a_call (ConnectionCut old new rounds cause) wires left s runs waits some h = refl
+by_a_call _ wires left s runs waits some h = refl
 
 ends_after : (f g h : Known) (a b c : Doorway) (turns taken : ℕ) (s : Session) (k new : Kept) (end : DriveEnd) → taken < turns
     → (v : ServedSoFar f g a b turns taken s k)

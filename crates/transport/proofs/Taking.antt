@@ -1,18 +1,12 @@
 -- What is due is taken.
-use Rattle.std.proofs.Common.{◌≡◌, ℕ, ◌≤◌, Bool, true, false, cond, ◌&&◌, eqb, leb, ltb, List, [], ◌∷◌, length, Option, Some, None, refl, sym, arith, inl, inr}
-use Rattle.std.specs.Prelude.{IsOk, ◌⊎◌}
-use Rattle.std.proofs.lemmas.Bool.Decides.{nat_tests}
+use Rattle.transport.proofs.Common.{[], Answer, answers_next, arith, Bool, cond, done, due, eqb, false, inl, inr, is_finished, is_finished_on, is_runnable, IsOk, Leave, leb, length, List, ltb, nat_tests, next_turn, None, Option, outcome, outcome_at, Receive, Recv, refl, Run, Send, Sent, Some, sym, true, Turn, turn_by, turn_of, ℕ, ◌&&◌, ◌∷◌, ◌≡◌, ◌≤◌, ◌⊎◌}
 use Rattle.session.specs.declared.event.Applied.TheVariants.{Turn as DidTurn}
 use Rattle.session.specs.declared.event.Turned.TheVariants.{Full}
-use Rattle.session.specs.declared.event.Event.TheVariants.{Recv, Turn, Sent}
 use Rattle.session.specs.declared.link.Link.{Link}
 use Rattle.queues.specs.declared.pending.Pending.{Pending}
 use Rattle.session.specs.Acts.{Seen}
-use Rattle.session.specs.Outcomes.{answers_next, done, is_finished, is_finished_on, next_turn, outcome, outcome_at, turn_by, turn_of}
-use Rattle.session.specs.Slices.{is_runnable}
-use Rattle.transport.specs.Rounds.{Send, Leave, Answer, Run, Receive, due}
 
--- what the tests say of which something is due
+-- what the tests say where this is due
 pub send_test : (a b c d : Bool) → cond a Send (cond b Leave (cond c Answer (cond d Run Receive))) ≡ Send → a ≡ true
 send_test true b c d h = refl
 send_test false true c d h = cc

@@ -13,7 +13,7 @@ use Rattle.protocol.specs.declared.request.MessageError.{MessageError}
 use Rattle.protocol.specs.Reading.{incoming_of}
 use Rattle.session.specs.declared.TheConstants.{BODY_LIMIT}
 
--- whether a stream goes on as no frame can
+-- whether a stream continues as no frame can
 abbrev pub has_fault : Tail → Bool
 has_fault tail = is_some (fault_of tail)
 
@@ -72,12 +72,12 @@ and_read heard piece = record heard { read = heard.read ++ piece }
 abbrev pub AllGiven : Heard → Type 0
 AllGiven heard = messages_in heard.read ≡ heard.given
 
--- a stream may still go on
+-- a stream may still continue
 abbrev pub IsUnfinished : Tail → Type 0
 IsUnfinished (Partial rest) = Unit {0}
 IsUnfinished (Faulty fault) = ⊥
 
--- All messages of what was read were given, and the stream may still go on: more is to be read.
+-- All messages of what was read were given, and the stream may still continue: more is to be read.
 abbrev pub NeedsMore : Heard → Type 0
 NeedsMore heard = AllGiven heard × IsUnfinished (reading_of BODY_LIMIT heard.read).tail
 

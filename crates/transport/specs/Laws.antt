@@ -73,7 +73,7 @@ pub record Wrote (n : ℕ) (calls : List Call) (held_before held : Option (List 
   pub appended : Appends held_before held (frames_from (n + 1) (written calls) ++ part)
   pub rest : IsPartOfNext (n + length (written calls) + 1) fault part
 
--- Whatever calls are made of a server that begins after so many messages, its writer gets the frames of the messages that
+-- Whatever calls are made of a server that begins after `written` messages, its writer gets the frames of the messages that
 -- succeeded, with the numbers that follow, one after the other, and after a fault of the writer a part of one more. Before
 -- a new server there were none: the first has number 1.
 abbrev pub MessagesAreFramedInOrder : Type 0

@@ -6,7 +6,7 @@ pub mod Files
 pub mod Rounds
 -- what a recorder is told of them
 pub mod Told
--- the rounds over a wire, and how driving ends; at the end of the file one pass of the loop, which private clauses cite alone
+-- the rounds over a wire, and how driving ends
 pub mod Drives
 -- editors that are served one after the other, each over a wire that a door accepts
 pub mod Serving
@@ -21,9 +21,8 @@ pub mod Outbox
 pub mod Servers
 -- what follows for every list of calls
 pub mod Laws
--- ---- for private clauses alone
--- what a server keeps of what it read, step by step
-pub mod Inbox
+-- what private clauses alone cite
+pub mod Private
 -- ---- of `session`
 -- a session with all of its past
 pub use Rattle.session.specs.Sessions

@@ -1,7 +1,7 @@
 -- What driving and serving lead to.
 --
 -- A round is an event, or two; an iteration is a connection, its rounds and its end, or a slice. Where no memory was left in a slice, that
--- slice was cut. So what a session stands for after it was driven or served is led to from what it stood for before, by what
+-- slice was cut. So what a session represents after it was driven or served is led to from what it represented before, by what
 -- happened (`Reached` of `session`): all that holds of whatever is reached holds of what this loop makes of a session.
 --
 -- What a recorder was told leads there too, unless no memory was left; and slices that follow each other may be told as one of all their moves. So
@@ -22,7 +22,7 @@ use Rattle.transport.specs.Files.{Records}
 use Rattle.transport.specs.declared.end.DriveEnd.{DriveEnd}
 use Rattle.transport.specs.declared.end.DriveEnd.TheVariants.{NoMemory}
 
--- it stands for what something leads to from there
+-- it represents what something leads to from there
 abbrev pub IsLedTo : Session → Kept → Type 0
 IsLedTo s new = (happened : List Happened) × Stands new (led_to happened s)
 
@@ -36,7 +36,7 @@ ServingLeads = (before after : Known) (old new : Doorway) (turns : ℕ) (s : Ses
 
 -- ---- what is told
 
--- the events that were told lead from a session to what is stood for then, unless no memory was left
+-- the events that were told lead from a session to what is represented then, unless no memory was left
 abbrev pub TellsWhatHappened : Known → Known → Session → Kept → DriveEnd → Type 0
 TellsWhatHappened before after s kept end = (events : List Event) × Records before.told after.told events
     × ((end ≡ NoMemory) ⊎ Stands kept (after_all histories events s))

@@ -9,9 +9,7 @@
 --
 -- What a request is answered with is what a read of the file that it wants gave (`Files`).
 use Rattle.std.specs.Prelude.{◌≡◌, ℕ, ◌+◌, nat_lt, nat_le, Bool, true, false, if◌then◌else◌, List, [], ◌∷◌, ◌++◌}
-use Rattle.std.specs.Prelude.{length, take, Option, Some, None, Result, Ok, Err, IsOk, ◌⊎◌}
-use Rattle.transport.specs.declared.end.DriveEnd.{DriveEnd}
-use Rattle.transport.specs.declared.end.DriveEnd.TheVariants.{NoMemory}
+use Rattle.std.specs.Prelude.{length, take, Option, Some, None, IsOk, ◌⊎◌}
 use Rattle.session.specs.declared.event.Event.{Event}
 use Rattle.session.specs.declared.event.Event.TheVariants.{Connect, Recv, Turn, Slice, Hold, Sent, DropConnection}
 use Rattle.session.specs.Acts.{Seen}
@@ -190,15 +188,3 @@ reads s (r ∷ rounds) = reads_in s r ++ reads (after_round s r) rounds
 -- a program that is given time, and no memory is left: to tell what it does, or for a page
 abbrev pub RunsOut : Session → Kept → Type 0
 RunsOut s new = (moved : ℕ) × BreaksOff histories moves_granted moved s (λ t. Stands new t)
-
--- ---- for private clauses alone
-
--- the reads that were made to find what an answer wants, by what was found; none where no memory was left for it
-abbrev pub reads_made : {E : Type 0} → Option (List ℕ) → Result (Option (List ℕ)) E → List FileRead
-reads_made wanted (Ok file) = read_for wanted file
-reads_made wanted (Err error) = []
-
--- What a piece leaves: the session takes it, or no memory was left for it and the connection has ended.
-abbrev pub Took : Result ℕ DriveEnd → List ℕ → Session → Kept → Type 0
-Took (Ok next) piece s new = Stands new (Effect s (Recv piece))
-Took (Err end) piece s new = (end ≡ NoMemory) × Stands new (Effect s DropConnection)

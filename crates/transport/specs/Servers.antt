@@ -47,7 +47,7 @@ Gave left heard (Err TooManyReads) new = HasRead new heard × NeedsMore heard
 Gave left heard (Err NoMemoryLeft) new = HasRead new heard
 Gave left heard (Err SeqSpent) new = ⊥
 
--- Some bytes are read, by so many reads, and then what was heard before and with them decides. There is no read while a
+-- Some bytes are read, by this many reads, and then what was heard before and with them decides. There is no read while a
 -- message of what was heard is left to give, nor after a fault of the stream.
 pub record Polls (left_before left : Option (List ℕ)) (heard : Heard) (result : Result (Option Incoming) ServerError)
     (reads : ℕ) (new : Unread) : Type 0 where
@@ -56,7 +56,7 @@ pub record Polls (left_before left : Option (List ℕ)) (heard : Heard) (result 
   pub needed : ((reads ≡ 0) × (read ≡ [])) ⊎ NeedsMore heard
   pub gave : Gave left (and_read heard read) result new
 
--- How often a poll read: 2,097,152 times at most, and just so often where it gave up.
+-- How often a poll read: 2,097,152 times at most, and exactly that often where it gave up.
 pub record ReadSoOften (result : Result (Option Incoming) ServerError) (reads : ℕ) : Type 0 where
   pub few : reads ≤ 2097152
   pub all : result ≡ Err TooManyReads → reads ≡ 2097152

@@ -8,7 +8,7 @@
 --
 -- A turn is one of these: a connection that is accepted, a slice of an unattended program, a round of a connection, and
 -- the end of a connection. Where turns or memory end serving while an editor is connected, its connection ends too.
-use Rattle.std.specs.Prelude.{◌≡◌, ℕ, ◌+◌, ◌-◌, ◌≤◌, Bool, true, false, List, [], ◌∷◌, ◌++◌, length, Option, Result, Ok, Err, IsOk, IsErr}
+use Rattle.std.specs.Prelude.{◌≡◌, ℕ, ◌+◌, ◌-◌, ◌≤◌, Bool, true, false, List, [], ◌∷◌, ◌++◌, length, Option, IsOk, IsErr}
 use Rattle.session.specs.declared.event.Event.{Event}
 use Rattle.session.specs.declared.event.Event.TheVariants.{Connect, Slice, DropConnection}
 use Rattle.session.specs.Effects.{BreaksOff}
@@ -258,44 +258,3 @@ pub record ServedTold (before after : Known) (old new : Doorway) (turns : ℕ) (
 -- the same, where nobody is told
 abbrev pub Served : KnownReads → KnownReads → Doorway → Doorway → ℕ → Session → Kept → DriveEnd → Type 0
 Served before after = ServedTold (untold before) (untold after)
-
--- ---- one pass of the loop, for private clauses alone
-
--- One iteration took that many turns, where that many were left.
-pub record Iterated (before after : Known) (left count : ℕ) (old new : Doorway) (s : Session) (kept : Kept)
-    : Type 0 where
-  pub iteration : Iteration
-  pub is_iteration : IsIteration left s iteration
-  pub counts : turns_in iteration ≡ count
-  pub opened : Opened old new (lines_in iteration) old.faults (idle_in old.idle iteration)
-  pub files : Records before.reads after.reads (reads_within s iteration)
-  pub told : Records before.told after.told (events_within iteration)
-  pub stands : Stands kept (after_iteration s iteration)
-
--- Serving ends, however many turns were taken.
-pub record Ended (before after : Known) (left : ℕ) (end : DriveEnd) (old new : Doorway) (s : Session) (kept : Kept)
-    : Type 0 where
-  pub why : Why
-  pub opened : Opened old new (lines_by why) (failed_at why old.faults) (idle_at why old.idle)
-  pub files : Records before.reads after.reads (reads_at s why)
-  pub told : Records before.told after.told (events_at why)
-  pub is_end : end_by why ≡ end
-  pub is_why : (taken : ℕ) → IsWhy why new.wires left taken s
-  pub leaves : LeavesBy why s kept
-
--- what one pass of the loop does, by its result
-abbrev pub IteratedOrEnded : Known → Known → ℕ → Result ℕ DriveEnd → Doorway → Doorway → Session → Kept → Type 0
-IteratedOrEnded before after left (Ok count) old new s kept = Iterated before after left count old new s kept
-IteratedOrEnded before after left (Err end) old new s kept = Ended before after left end old new s kept
-
--- Since a session was this one it has been served for that many turns, and serving has not ended.
-pub record ServedSoFar (before after : Known) (old new : Doorway) (turns taken : ℕ) (s : Session) (kept : Kept)
-    : Type 0 where
-  pub iterations : List Iteration
-  pub are_iterations : AreIterations turns s iterations
-  pub count : turns_taken iterations ≡ taken
-  pub opened : Opened old new (lines_of iterations) old.faults (idle_after_iterations old.idle iterations)
-  pub waits : new.waits ≡ waits_after_iterations old.waits s iterations
-  pub files : Records before.reads after.reads (reads_of s iterations)
-  pub told : Records before.told after.told (events_of_all iterations)
-  pub stands : Stands kept (after_iterations s iterations)

@@ -4,13 +4,9 @@
 -- no memory was left is none: it made fewer moves than it was given.
 --
 -- A recorder may say which events it was told, in order; where it does not say so, nothing is claimed of them.
-use Rattle.std.specs.Prelude.{ℕ, Bool, true, false, List, [], ◌∷◌, ◌++◌, Option, None, Some, Result, Ok, Err, option_map}
+use Rattle.std.specs.Prelude.{Bool, true, false, List, [], ◌∷◌, ◌++◌, Option, None, option_map}
 use Rattle.session.specs.declared.event.Event.{Event}
 use Rattle.session.specs.declared.event.Event.TheVariants.{Connect, Recv, Turn, Slice, Hold, Sent, DropConnection}
-use Rattle.session.specs.declared.event.EventError.{EventError}
-use Rattle.session.specs.declared.event.EventError.TheVariants.{NoMemory}
-use Rattle.session.specs.Sessions.{Session, Effect}
-use Rattle.transport.specs.declared.end.DriveEnd.{DriveEnd}
 use Rattle.transport.specs.Files.{KnownReads}
 use Rattle.transport.specs.Rounds.{Round, Did, Ran, moves_granted}
 use Rattle.transport.specs.declared.recorder.EventRef.{EventRef}
@@ -58,16 +54,3 @@ events_in (Ran held) = Slice moves_granted ∷ holds held
 abbrev pub events_of : List Round → List Event
 events_of [] = []
 events_of (r ∷ rounds) = events_in r ++ events_of rounds
-
--- ---- for private clauses alone
-
--- what is told of an event, by its answer: nothing where no memory was left
-abbrev pub told_by : {X : Type 0} → Event → Result X EventError → List Event
-told_by e (Ok x) = e ∷ []
-told_by e (Err NoMemory) = []
-told_by e (Err other) = e ∷ []
-
--- what is told of a piece: that it came, or that no memory was left for it, and the connection ended
-abbrev pub told_of_piece : List ℕ → Result ℕ DriveEnd → List Event
-told_of_piece piece (Ok since) = Recv piece ∷ []
-told_of_piece piece (Err end) = DropConnection ∷ []

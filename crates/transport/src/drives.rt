@@ -1,7 +1,8 @@
 //! A session over a wire.
 ghost use Rattle.std.specs.Prelude.{◌≡◌, ◌+◌, ◌<◌, ◌≤◌, length, true, Err, IfOk, ℕ};
 ghost use Rattle.session.specs.Kept.{OfEach, Stands, see_kept};
-ghost use Rattle.transport.specs.Drives.{Driven, DrivenTold, DroveFor, Passed, Went, is_held, waits_at};
+ghost use Rattle.transport.specs.Drives.{Driven, DrivenTold, is_held, waits_at};
+ghost use Rattle.transport.specs.Private.Drives.{DroveFor, Passed, Went};
 ghost use Rattle.transport.specs.Files.{KnownReads, Records};
 ghost use Rattle.transport.specs.Rounds as spec;
 ghost use Rattle.transport.specs.Rounds.{due};

@@ -2,7 +2,7 @@
 ghost use Rattle.std.specs.Prelude.{◌≡◌, ◌<◌, [], Ok, None, Err, OnOk, OnErr};
 ghost use Rattle.transport.specs.Heard.{Heard, HasHeard, HasRead};
 ghost use Rattle.transport.specs.Servers.{Polled};
-ghost use Rattle.transport.specs.Inbox.{IsEmptied, Takes, polled_of, Reads, reads_after};
+ghost use Rattle.transport.specs.Private.Inbox.{IsEmptied, Takes, polled_of, Reads, reads_after};
 
 use crate::room::room_of;
 use crate::server::ServerError;

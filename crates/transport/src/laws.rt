@@ -3,15 +3,15 @@
 ghost use Rattle.transport.specs.Laws as law;
 ghost use Rattle.transport.specs.Reaching.{DrivingLeads, DrivingTells, JoinedLeadToTheSame, ServingLeads, ServingTells};
 
-/// Whatever comes over wires and doors, and wherever memory runs out: what a session stands for after it was driven or served is what
-/// events, and slices that found no memory, lead to from what it stood for before.
+/// Whatever comes over wires and doors, and wherever memory runs out: what a session represents after it was driven or served is what
+/// events, and slices that found no memory, lead to from what it represented before.
 pub fn what_is_driven_and_served_is_reached()
     ensures driven { DrivingLeads }
     ensures served { ServingLeads }
 {}
 
-/// Whatever comes over wires and doors: the events that a recorder was told lead from what a session stood for before it was driven or served to
-/// what it stands for then, unless no memory was left.
+/// Whatever comes over wires and doors: the events that a recorder was told lead from what a session represented before it was driven or
+/// served to what it represents then, unless no memory was left.
 pub fn what_is_told_is_what_happened()
     ensures driven { DrivingTells }
     ensures served { ServingTells }

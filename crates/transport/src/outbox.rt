@@ -3,7 +3,7 @@ ghost use Rattle.std.specs.Prelude.{◌≡◌, ◌≢◌, ◌+◌, ◌==◌, ◌
 ghost use Rattle.std.specs.IoError.{error_kind};
 ghost use Rattle.std.specs.declared.io.ErrorKind.TheVariants.{Interrupted};
 ghost use Rattle.std.specs.Io.KnownBytes.{Keeps, Appends};
-ghost use Rattle.transport.specs.Outbox.{queued, Sends, SendsPrefix};
+ghost use Rattle.transport.specs.Private.Outbox.{queued, Sends, SendsPrefix};
 
 use blocking_io::write_some;
 use protocol::LAST_SEQ;
@@ -45,7 +45,7 @@ impl Model for Outbox {
 }
 
 impl Outbox {
-    /// Nothing waits, after so many messages.
+    /// Nothing waits, after `count` messages.
     pub(crate) fn after(alloc: Global, count: u32) -> Outbox
         requires { count ≤ LAST_SEQ }
         ensures { result ≡ record { count = count; waiting = [] } }

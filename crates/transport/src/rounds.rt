@@ -6,8 +6,9 @@ ghost use Rattle.session.specs.Kept.{Happens, OfEach, Stands, answered};
 ghost use Rattle.session.specs.Outcomes.{wanted_on};
 ghost use Rattle.session.specs.Sessions.{Effect};
 ghost use Rattle.transport.specs.Files.{Records};
-ghost use Rattle.transport.specs.Rounds.{IsGiven, Took, reads_made};
-ghost use Rattle.transport.specs.Told.{told_by, told_of_piece};
+ghost use Rattle.transport.specs.Rounds.{IsGiven};
+ghost use Rattle.transport.specs.Private.Rounds.{Took, reads_made};
+ghost use Rattle.transport.specs.Private.Told.{told_by, told_of_piece};
 
 use crate::end::DriveEnd;
 use crate::files::{Files, file_at};

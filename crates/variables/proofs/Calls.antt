@@ -1,17 +1,12 @@
 -- Laws over any list of calls.
-use Rattle.std.proofs.Common.{◌≡◌, ℕ, suc, ◌+◌, ◌-◌, ◌≤◌, Bool, true, false, cond, ◌||◌, nat_lt, ◌==◌, List, [], ◌∷◌, length, map, Some, Ok, Err, refl, sym, ap, ◌∙◌, arith}
-use Rattle.std.specs.List.{slice_get}
-use Rattle.std.proofs.lemmas.Bool.Decides.{nat_tests}
+use Rattle.variables.proofs.Common.{[], ap, arith, at_next_stop, Bool, cond, Err, false, found_in, has, InOrder, is_same, Issued, issued_all, length, List, map, nat_lt, nat_tests, next_after, nothing_issued, number_from, number_in, Numbers, Ok, Past, refl, slice_get, Some, StandsFor, suc, sym, Target, true, unless_absent, with_all, with_targets, ℕ, ◌+◌, ◌-◌, ◌==◌, ◌||◌, ◌∙◌, ◌∷◌, ◌≡◌, ◌≤◌}
 use Rattle.variables.specs.Laws.{Call, EndedAreStale, IssuedAreFound, NumbersRise, NumbersStay, after_call, after_calls, down_from, past_of}
 use Rattle.variables.specs.Laws.Call.{EndStop, Issue}
-use Rattle.variables.specs.Numbers.{InOrder, Numbers, StandsFor, at_next_stop, found_in, has, number_from, number_in, unless_absent, with_all, with_targets}
-use Rattle.variables.specs.References.{Issued, Past, is_same, issued_all, next_after, nothing_issued}
 use Rattle.variables.specs.declared.error.FindError.TheVariants.{Unknown, Stale}
-use Rattle.variables.specs.declared.target.Target.{Target}
 use Rattle.variables.proofs.Standing.{all_stand, ended_stands, found_among-later, nothing_stands}
 use Rattle.variables.proofs.Targets.{has-with_all, is_same-true, or-true, some_number, with_all-keeps}
 
--- ---- something that is kept stands for each past
+-- ---- something that is kept represents each past
 
 abbrev pub Kept : Past → Type 0
 Kept past = (kept : Numbers) × StandsFor kept past

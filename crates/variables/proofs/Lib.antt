@@ -1,3 +1,4 @@
+pub mod Common
 pub mod Targets
 pub mod Standing
 pub mod Calls

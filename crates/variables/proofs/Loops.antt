@@ -1,11 +1,6 @@
 -- Loops over targets, one target further.
-use Rattle.std.proofs.Common.{◌≡◌, ℕ, suc, ◌+◌, ◌<◌, Bool, true, false, cond, ◌||◌, List, [], ◌∷◌, ◌++◌, length, map, take, drop, get_or, Option, Some, None, sym, ap, ◌∙◌, arith, add-one, drop-cons}
-use Rattle.std.specs.List.{All}
+use Rattle.variables.proofs.Common.{[], add-one, All, ap, arith, Bool, cond, drop, drop-cons, false, get_or, has, is_same, length, List, map, map-append, None, number_from, Option, Some, suc, sym, take, take_more, Target, true, with_all, with_one, ℕ, ◌++◌, ◌+◌, ◌<◌, ◌||◌, ◌∙◌, ◌∷◌, ◌≡◌}
 use Rattle.std.proofs.lemmas.List.Elements.{All-get_or}
-use Rattle.std.proofs.lemmas.List.{map-append, take_more}
-use Rattle.variables.specs.Numbers.{has, number_from, with_all, with_one}
-use Rattle.variables.specs.References.{is_same}
-use Rattle.variables.specs.declared.target.Target.{Target}
 use Rattle.variables.proofs.Targets.{has-with_all, length-with_one, some_number, with_all-append}
 
 left_from : (targets : List Target) (i : ℕ) (t : Target) → i < length targets → t ≡ get_or targets i t

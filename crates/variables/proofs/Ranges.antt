@@ -1,6 +1,5 @@
 -- The words of the stack, one after the other.
-use Rattle.std.proofs.Common.{◌≡◌, ℕ, suc, ◌+◌, ◌-◌, ◌*◌, ◌<◌, ◌≤◌, Bool, true, false, cond, List, [], ◌∷◌, ◌++◌, map, take, slice_index, Option, Some, None, refl, sym, ap, ◌∙◌, arith, append_assoc}
-use Rattle.std.specs.List.{prefix_len, range_with_len, take_while}
+use Rattle.variables.proofs.Common.{[], ap, append_assoc, arith, Bool, cond, false, has_word, List, map, None, Option, prefix_len, range_with_len, refl, slice_index, Some, suc, sym, take, take_while, true, word, words, ℕ, ◌*◌, ◌++◌, ◌+◌, ◌-◌, ◌<◌, ◌∙◌, ◌∷◌, ◌≡◌, ◌≤◌}
 use Rattle.std.proofs.lemmas.List.FromFn.{map-range_with_len_more}
 use Rattle.rv32i.proofs.Following.{range_with_len-end, range_with_len-rest}
 use Rattle.image.specs.Memory.{bytes_at, has_bytes, little_endian}
@@ -8,7 +7,7 @@ use Rattle.rv32i.specs.Names.{name_of}
 use Rattle.rv32i.specs.declared.hart.Hart.{Hart}
 use Rattle.message_parts.specs.declared.variables.Variable.{Variable}
 use Rattle.variables.specs.Registers.{counter, register, registers}
-use Rattle.variables.specs.Stack.{has_word, word, word_anywhere, words}
+use Rattle.variables.specs.Private.Stack.{word_anywhere}
 
 take_while-true : (p : ℕ → Bool) (x : ℕ) (xs : List ℕ) → p x ≡ true → take_while p (x ∷ xs) ≡ x ∷ take_while p xs
 take_while-true p x xs is =

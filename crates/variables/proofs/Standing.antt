@@ -1,18 +1,12 @@
--- What is kept stands for the past.
-use Rattle.std.proofs.Common.{◌≡◌, ℕ, zero, suc, ◌+◌, ◌-◌, ◌<◌, ◌≤◌, Bool, true, false, cond, ◌&&◌, ◌==◌, nat_lt, List, [], ◌∷◌, ◌++◌, length, map, Option, Some, None, Result, Ok, Err, refl, sym, ap, subst, ◌∙◌, arith}
-use Rattle.std.specs.List.{slice_get}
+-- What is kept represents the past.
+use Rattle.variables.proofs.Common.{[], ap, arith, at_next_stop, Bool, cond, ended, Err, false, found, found_among, found_in, has, InOrder, is_same, Issued, issued_all, issued_one, Issues, length, length-append, List, map, nat_lt, nat_tests, next_number, next_of, None, nothing_issued, number_among, number_from, number_in, number_of, Numbers, numbers_by, Ok, Option, Past, refl, Result, slice_get, Some, StandsFor, subst, suc, sym, Target, true, unless_absent, unless_issued, with_all, with_one, with_targets, zero, ℕ, ◌&&◌, ◌++◌, ◌+◌, ◌-◌, ◌<◌, ◌==◌, ◌∙◌, ◌∷◌, ◌≡◌, ◌≤◌}
 use Rattle.std.specs.declared.alloc.Global.{Global}
 use Rattle.std.specs.declared.vec.Vec.{Vec}
-use Rattle.std.proofs.lemmas.Bool.Decides.{nat_tests}
-use Rattle.std.proofs.lemmas.List.{length-append}
 use Rattle.variables.specs.Laws.{stale}
-use Rattle.variables.specs.References.{Issued, Past, ended, found, found_among, is_same, issued_all, issued_one, next_number, nothing_issued, number_among, number_of, unless_issued}
-use Rattle.variables.specs.Numbers.{InOrder, Issues, Numbers, StandsFor, at_next_stop, found_in, has, next_of, number_from, number_in, numbers_by, unless_absent, with_all, with_one, with_targets}
 use Rattle.variables.specs.declared.error.FindError.{FindError}
 use Rattle.variables.specs.declared.error.FindError.TheVariants.{Unknown, Stale}
 use Rattle.variables.specs.declared.error.IssueError.{IssueError}
 use Rattle.variables.specs.declared.error.IssueError.TheVariants.{Exhausted, NoMemory}
-use Rattle.variables.specs.declared.target.Target.{Target}
 use Rattle.variables.proofs.Targets.{first_of_two, is_same-true, no_number, no_second, number_from-append, some_number, with_one-new, with_one-old}
 
 abbrev pub Found : Type 0

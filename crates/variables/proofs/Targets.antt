@@ -1,14 +1,8 @@
 -- Lists of targets, and their numbers.
-use Rattle.std.proofs.Common.{◌≡◌, ℕ, suc, ◌+◌, ◌≤◌, Bool, true, false, cond, ◌==◌, ◌||◌, List, [], ◌∷◌, ◌++◌, length, get_or, Option, Some, None, refl, sym, ap, subst, ◌∙◌, arith}
-use Rattle.std.specs.List.{All}
+use Rattle.variables.proofs.Common.{[], All, ap, arith, Bool, cond, false, get_or, has, is_same, length, length-append, List, nat_tests, None, number_from, Option, refl, Some, subst, suc, sym, Target, true, with_all, with_one, ℕ, ◌++◌, ◌+◌, ◌==◌, ◌||◌, ◌∙◌, ◌∷◌, ◌≡◌, ◌≤◌}
 use Rattle.std.proofs.lemmas.Bool.{eqb-true}
-use Rattle.std.proofs.lemmas.Bool.Decides.{nat_tests}
-use Rattle.std.proofs.lemmas.List.{length-append}
 use Rattle.std.proofs.lemmas.List.Elements.{All-from_get_or}
 use Rattle.std.proofs.lemmas.List.Folds.{list_any-append, list_any_at}
-use Rattle.variables.specs.References.{is_same}
-use Rattle.variables.specs.Numbers.{has, number_from, with_all, with_one}
-use Rattle.variables.specs.declared.target.Target.{Target}
 use Rattle.variables.specs.declared.target.Target.TheVariants.{Frame, Registers, Stack}
 
 -- ---- targets

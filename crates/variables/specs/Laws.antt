@@ -26,7 +26,7 @@ after_calls (call ∷ calls) past = after_calls calls (after_call call past)
 abbrev pub past_of : List Call → Past
 past_of calls = after_calls calls nothing_issued
 
--- so many numbers, from the greatest down to 1
+-- the numbers from this one down to 1
 abbrev pub down_from : ℕ → List ℕ
 down_from zero = []
 down_from (suc n) = suc n ∷ down_from n

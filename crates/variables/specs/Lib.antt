@@ -14,3 +14,5 @@ pub mod References
 pub mod Numbers
 -- what holds of numbers over any list of calls
 pub mod Laws
+-- what private clauses alone cite
+pub mod Private

@@ -73,14 +73,14 @@ has_room kept targets = not (nat_lt (kept.last + 1) (next_of (with_targets kept 
 abbrev pub at_next_stop : Numbers → Numbers
 at_next_stop kept = record kept { first = next_of kept; targets = [] }
 
--- ---- what it stands for
+-- ---- what it represents
 
 -- The numbers that were issued fall from the newest to 1, one by one, and none is of a later stop than a newer one.
 abbrev pub InOrder : ℕ → List Issued → Type 0
 InOrder stop [] = ⊤
 InOrder stop (i ∷ earlier) = (i.number ≡ next_after earlier) × ((i.stop ≤ stop) × InOrder i.stop earlier)
 
--- What is kept stands for the past: it answers the same.
+-- What is kept represents the past: it answers the same.
 pub record StandsFor (kept : Numbers) (past : Past) : Type 0 where
   pub next : next_of kept ≡ next_number past
   pub some : 1 ≤ kept.first

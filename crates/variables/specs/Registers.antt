@@ -2,7 +2,7 @@
 --
 -- The list has x0 to x31 under their names, and then the program counter as `pc`. What can be set are x1 to x31, under
 -- the same names: neither `fp` nor `x8` is a variable, though both name s0 elsewhere. x0 is always 0, and the program
--- goes on where it stands.
+-- continues where it stands.
 use Rattle.std.specs.Prelude.{◌≡◌, ℕ, ◌==◌, if◌then◌else◌, List, [], ◌∷◌, ◌++◌, map, slice_index, slice_set}
 use Rattle.std.specs.Prelude.{Option, Some, None, Result, Ok, Err, bytes_eq, codes, refl}
 use Rattle.std.specs.List.{range_with_len}

@@ -1,9 +1,9 @@
 -- The words of the stack as variables (DAP specification, `Variable`).
 --
 -- The list begins at the stack pointer (x2) and goes up: `sp+0`, `sp+4` and on, each the little-endian word at that
--- address. It ends before the first word of which a byte lies outside memory, and has at most 64 words. The stack pointer
+-- address. It ends before the first word with a byte outside memory, and has at most 64 words. The stack pointer
 -- need be no multiple of 4. Addresses have 32 bits, and sums wrap.
-use Rattle.std.specs.Prelude.{ℕ, ◌*◌, Bool, if◌then◌else◌, List, ◌++◌, map, slice_index, Option, Some, None}
+use Rattle.std.specs.Prelude.{ℕ, ◌*◌, Bool, List, ◌++◌, map, slice_index}
 use Rattle.std.specs.Prelude.{codes}
 use Rattle.std.specs.List.{range_with_len, take_while}
 use Rattle.std.specs.Fmt.{decimal}
@@ -12,11 +12,11 @@ use Rattle.message_parts.specs.declared.variables.Variable.{Variable}
 use Rattle.rv32i.specs.Machine.{sum}
 use Rattle.rv32i.specs.declared.hart.Hart.{Hart}
 
--- the name of the word so many bytes above the stack pointer
+-- the name of the word `offset` bytes above the stack pointer
 abbrev pub name_at : ℕ → List ℕ
 name_at offset = codes "sp+" ++ decimal offset
 
--- whether all four bytes of the word so many bytes above the stack pointer lie in memory
+-- whether all four bytes of the word `offset` bytes above the stack pointer lie in memory
 abbrev pub has_word : List ℕ → ℕ → ℕ → Bool
 has_word memory sp offset = has_bytes memory (sum sp offset) 4
 
@@ -33,10 +33,3 @@ words memory sp numbers =
 -- the list
 unfoldable pub stack_words : Hart → List ℕ → List Variable
 stack_words hart memory = words memory (slice_index hart.x 2) (range_with_len 0 64)
-
--- ---- what private clauses cite
-
--- the word at any address, if it lies in memory
-abbrev pub word_anywhere : List ℕ → ℕ → Option ℕ
-word_anywhere memory address =
-    if has_bytes memory address 4 then Some (little_endian (bytes_at memory address 4)) else None

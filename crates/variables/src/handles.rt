@@ -38,7 +38,7 @@ impl Model for Handles {
 }
 
 impl Handles {
-    /// Numbers from 1 to `last_ref`, of which none is issued; `last_ref` is at most 2,147,483,647. It takes no memory.
+    /// Numbers from 1 to `last_ref`, none of them issued; `last_ref` is at most 2,147,483,647. It takes no memory.
     pub fn new(alloc: Global, last_ref: u32) -> Handles
         requires { last_ref ≤ 2147483647 }
         ensures kept { result ≡ record { first = 1; targets = []; last = last_ref } }

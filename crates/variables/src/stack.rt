@@ -1,7 +1,8 @@
 //! The words of the stack as variables.
 
 ghost use Rattle.std.specs.Prelude.{◌≡◌, ◌<◌, ◌≤◌, ◌+◌, IfOk, slice_index};
-ghost use Rattle.variables.specs.Stack.{name_at, stack_words, word, word_anywhere};
+ghost use Rattle.variables.specs.Stack.{name_at, stack_words, word};
+ghost use Rattle.variables.specs.Private.Stack.{word_anywhere};
 
 use image::Memory;
 use protocol::Text;
@@ -15,8 +16,8 @@ const SP: usize = 2;
 /// The most words that are listed.
 const WORDS: u32 = 64;
 
-/// The words on top of the stack: `sp+0`, `sp+4` and on, the little-endian words at these addresses, while all four bytes lie in memory, and
-/// at most 64. The stack pointer need be no multiple of 4. It fails where no memory is left.
+/// The words on top of the stack: `sp+0`, `sp+4` and on, the little-endian words at these addresses, while all four bytes lie in memory,
+/// and at most 64. The stack pointer need be no multiple of 4. It fails where no memory is left.
 pub fn stack_words(alloc: Global, hart: &Hart, memory: &Memory) -> Result<Vec<Variable>, AllocError>
     ensures { IfOk result (λ words. words.items ≡ stack_words hart.now memory.now) }
 {
@@ -42,7 +43,7 @@ fn word_anywhere(memory: &Memory, address: u32) -> Option<u32>
     }
 }
 
-// The variable of the word so many bytes above the stack pointer.
+// The variable of the word `offset` bytes above the stack pointer.
 fn variable_at(alloc: Global, offset: u32, value: u32) -> Result<Variable, AllocError>
     ensures { IfOk result (λ variable. variable ≡ record { name = name_at offset; value = value }) }
 {

@@ -1,12 +1,7 @@
 -- Where there is nothing to watch, the last line is said.
-use Rattle.std.proofs.Common.{◌≡◌, ℕ, ◌+◌, List, length, Option, Ok, Err, inl, inr, refl}
+use Rattle.watch_command.proofs.Common.{config, Config, Done, Err, Event, Fails, fault_of, HasEvents, HasWatched, inl, inr, IsSomething, KnownReads, length, List, Ok, Option, Played, refl, Step, StepsFail, WatchAnswers, WatchesNone, ℕ, ◌+◌, ◌≡◌}
 use Rattle.scripts.specs.Scripts.{script_of}
-use Rattle.scripts.specs.declared.step.Step.{Step}
 use Rattle.scripts.specs.declared.watch.Watch.{Watch}
-use Rattle.session.specs.declared.config.Config.{Config}
-use Rattle.session.specs.declared.event.Event.{Event}
-use Rattle.transport.specs.Files.{KnownReads}
-use Rattle.watch_command.specs.Playing.{Done, Fails, HasEvents, HasWatched, IsSomething, Played, StepsFail, WatchAnswers, WatchesNone, config, fault_of}
 use Rattle.watch_command.specs.declared.watching.WatchFault.{WatchFault}
 use Rattle.watch_command.specs.declared.watching.WatchFault.TheVariants as fault
 use Rattle.watch_events.specs.declared.watching.WatchError.{WatchError}

@@ -1,17 +1,13 @@
--- What came of a stream, and what is left after its frames.
-use Rattle.std.proofs.Common.{◌≡◌, ℕ, suc, ◌+◌, ◌<◌, ◌≤◌, Bool, true, false, cond, nat_lt, List, [], ◌∷◌, ◌++◌, length, take, drop, Option, Some, None, option_map, refl, sym, ap, ◌∙◌, subst, add-one, drop-cons, get_or, ◌==◌, ◌&&◌, arith, length-drop}
+-- What has arrived of a stream, and what is left after its frames.
+use Rattle.watch_command.proofs.Common.{[], add-one, after_frame, ap, arith, begins_with_end, Bool, cond, drop, drop-cons, drop_all, end_of, false, first_of, get_or, HasLeft, length, length-drop, length-take-le, List, nat_lt, None, Option, option_map, others_of, Reading, reading_after, reading_by, reading_of, refl, rest_of, Some, start_of, subst, suc, sym, Tail, take, true, with_body, ℕ, ◌&&◌, ◌++◌, ◌+◌, ◌<◌, ◌==◌, ◌∙◌, ◌∷◌, ◌≡◌, ◌≤◌}
 use Rattle.std.proofs.lemmas.Bool.Decides.{nat_tests}
-use Rattle.std.proofs.lemmas.List.{drop_all, length-take-le}
 use Rattle.framing.proofs.Cutting.{reading_of-append}
 use Rattle.framing.proofs.Readings.{begins_is, reading_next, size_of_is}
-use Rattle.framing.specs.Headers.{begins_with_end, end_of}
-use Rattle.framing.specs.Reading.{Reading, Tail, reading_by, reading_of, start_of, with_body}
 use Rattle.framing.specs.Reading.Tail.{Partial}
-use Rattle.framing.specs.Streams.{fault_of, first_of, others_of, reading_after}
+use Rattle.framing.specs.Streams.{fault_of}
 use Rattle.framing.specs.declared.error.FrameError.{FrameError}
 use Rattle.framing.specs.declared.start.Start.{Start}
 use Rattle.framing.specs.declared.start.Start.TheVariants.{Waits, Breaks, Begins}
-use Rattle.watch_command.specs.Conversing.{HasLeft, after_frame, rest_of}
 
 -- ---- a frame less
 
@@ -94,21 +90,15 @@ none_left bytes (x ∷ others) tail first h = absurd (let no : (let o : Option (
 
 -- whether one ends here
 pub ends_short : (bytes : List ℕ) → length bytes < 4 → begins_with_end bytes ≡ false
-ends_short [] short = refl
-ends_short (a ∷ []) short = refl
-ends_short (a ∷ b ∷ []) short = refl
-ends_short (a ∷ b ∷ c ∷ []) short = refl
 ends_short (a ∷ b ∷ c ∷ d ∷ bytes) short = absurd (omega arith)
+ends_short _ short = refl
 
 pub ends_long : (bytes : List ℕ) → 4 ≤ length bytes
     → begins_with_end bytes ≡ (get_or bytes 0 0 == 13) && (get_or bytes 1 0 == 10) && (get_or bytes 2 0 == 13) && (get_or bytes 3 0 == 10)
-ends_long [] long = absurd (omega arith)
-ends_long (a ∷ []) long = absurd (omega arith)
-ends_long (a ∷ b ∷ []) long = absurd (omega arith)
-ends_long (a ∷ b ∷ c ∷ []) long = absurd (omega arith)
 ends_long (a ∷ b ∷ c ∷ d ∷ bytes) long = refl
+ends_long _ long = absurd (omega arith)
 
--- what is found after so many bytes
+-- what is found after this many bytes
 abbrev pub found_after : ℕ → Option ℕ → Option ℕ
 found_after count o = option_map (λ k. count + k) o
 
@@ -116,7 +106,6 @@ pub found_first : (o : Option ℕ) → found_after 0 o ≡ o
 found_first None = refl
 found_first (Some k) = (let same : Some (0 + k) ≡ Some k = ap (λ (n : ℕ). Some n) (omega arith) in same)
 
--- here
 pub found_here : (index : ℕ) (bytes : List ℕ) → begins_with_end bytes ≡ true → found_after index (end_of bytes) ≡ Some (index + 4)
 found_here index [] ends = absurd (let no : false ≡ true = ends in cc)
 found_here index (b ∷ bytes) ends = ap (λ (x : Bool). found_after index (cond x (Some 4) (option_map suc (end_of bytes)))) ends
@@ -141,7 +130,7 @@ found_none index bytes all = ap (λ (l : List ℕ). found_after index (end_of l)
 
 -- ---- a piece more
 
--- what has come of the next frame is that of all bytes
+-- what has arrived of the next frame is that of all bytes
 pub tail_on : (bytes piece : List ℕ) (tail : Tail) → (reading_of 1048576 bytes).tail ≡ tail
     → (reading_of 1048576 (bytes ++ piece)).tail ≡ (reading_after 1048576 tail piece).tail
 tail_on bytes piece tail h =

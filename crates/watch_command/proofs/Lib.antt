@@ -1,3 +1,4 @@
+pub mod Common
 pub mod Reading
 pub mod Failing
 -- what is left of a stream after its frames

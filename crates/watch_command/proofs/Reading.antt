@@ -1,10 +1,6 @@
 -- The events of steps, one after the other.
-use Rattle.std.proofs.Common.{◌≡◌, ℕ, List, [], ◌∷◌, ◌++◌, Option, Some, None, refl, sym, ap, ◌∙◌, subst, append-nil, append_assoc}
-use Rattle.scripts.specs.declared.step.Step.{Step}
-use Rattle.session.specs.declared.event.Event.{Event}
-use Rattle.transport.specs.Files.{FileRead, KnownReads, Records}
+use Rattle.watch_command.proofs.Common.{[], ap, append-nil, append_assoc, AreEvents, Event, event_of, FileRead, HasEvent, HasEvents, KnownReads, List, None, Option, path_in, Records, refl, Some, Step, subst, sym, ℕ, ◌++◌, ◌∙◌, ◌∷◌, ◌≡◌}
 use Rattle.transport.specs.Rounds.{read_for}
-use Rattle.watch_command.specs.Playing.{AreEvents, HasEvent, HasEvents, event_of, path_in}
 
 -- no step, and no read
 records_none : (known : KnownReads) → Records known known []

@@ -1,24 +1,16 @@
 -- What is written of events, one after the other, and of steps.
-use Rattle.std.proofs.Common.{◌≡◌, ℕ, suc, ◌+◌, ◌<◌, ◌≤◌, Bool, true, false, cond, List, [], ◌∷◌, ◌++◌, length, take, drop, get_or, Option, Result, Ok, Err, inl, inr, refl, sym, ap, ◌∙◌, subst, append-nil, append_assoc, drop-cons, take-append-drop, add-one}
-use Rattle.std.proofs.lemmas.List.{drop_all}
+use Rattle.watch_command.proofs.Common.{[], add-one, after, answered, ap, append-nil, append_assoc, Bool, cond, Config, DoesOne, Done, drop, drop-cons, drop_all, EachSays, Err, Event, false, first_known, get_or, HasEvents, HasPart, inl, inr, is_asked, IsReady, KnownReads, KnowsIf, length, lines_of, List, no_session, Ok, Option, others_known, refl, Replays, ReplaysIn, Result, said, Shows, ShowsAll, Step, Stream, subst, suc, sym, Tail, take, take-append-drop, Talk, Talks, true, within, Writes, ℕ, ◌++◌, ◌+◌, ◌<◌, ◌∙◌, ◌∷◌, ◌≡◌, ◌≤◌}
 use Rattle.std.proofs.KnownBytes.{Appends-nil, Appends-trans}
 use Rattle.std.specs.Io.KnownBytes.{Appends}
 use Rattle.blocking_io.specs.Writing.{IsPartWritten}
-use Rattle.framing.specs.Reading.{Tail}
 use Rattle.framing.specs.Reading.Tail.{Partial}
-use Rattle.scripts.specs.declared.step.Step.{Step}
 use Rattle.session.specs.Begins.{Begins, HasBegun, beginning_of}
 use Rattle.session.specs.Kept.{Kept, Stands}
 use Rattle.session.specs.Limits.{greatest_limits}
 use Rattle.session.specs.Sessions.{Session, start}
-use Rattle.session.specs.declared.config.Config.{Config}
 use Rattle.session.specs.declared.config.ConfigError.{ConfigError}
 use Rattle.session.specs.declared.config.ConfigError.TheVariants as config
-use Rattle.session.specs.declared.event.Event.{Event}
-use Rattle.transport.specs.Files.{KnownReads}
 use Rattle.watch_command.proofs.Failing.{done_by}
-use Rattle.watch_command.specs.Conversing.{DoesOne, EachSays, HasPart, IsReady, KnowsIf, Replays, ReplaysIn, Shows, ShowsAll, Stream, Talk, Talks, Writes, after, answered, first_known, is_asked, lines_of, no_session, others_known, said, within}
-use Rattle.watch_command.specs.Playing.{Done, HasEvents}
 use Rattle.watch_command.specs.declared.asked.Asked.{Asked}
 use Rattle.watch_command.specs.declared.asked.Unwritten.{Unwritten}
 use Rattle.watch_command.specs.declared.asked.Unwritten.TheVariants as unwritten
@@ -98,7 +90,7 @@ shows_nothing asked n e old new stream stream' held why =
 abbrev pub Says : Type 0
 Says = List (List (List ℕ)) → List ℕ
 
--- so much was said of the whole, by what was known so far, and the rest is this
+-- this text was said of the whole so far, by what was known, and this is the rest
 pub record SoFar (asked : Asked) (whole rest : Says) (text : List ℕ) : Type 0 where
   pub knows : List (List (List ℕ))
   pub none : KnowsIf asked knows
@@ -134,7 +126,7 @@ said_on asked whole rest text one next known parts none h = by asked.facts refl 
         );
   }
 
--- so much of the whole was written before these events
+-- some of the whole was written before these events
 pub record Leads (asked : Asked) (events : List Event) (number : ℕ) (tail : Tail) (session : Kept) (before now : Option (List ℕ))
     (whole : Says) : Type 0 where
   pub state : Session
@@ -302,7 +294,5 @@ module _ (asked : Asked) (steps : List Step) (files files' : KnownReads) (before
 
 pub none_begins : (c : Config) (asked : Asked) (steps : List Step) (files : KnownReads) (held : Option (List ℕ)) (why : ConfigError)
     → Begins c greatest_limits (Err why) → Replays c asked steps files files held held (Err (no_session why))
-none_begins c asked steps files held config.BadMemorySize h = (h, ((λ e. cc), refl))
-none_begins c asked steps files held config.BadLimit h = (h, ((λ e. cc), refl))
-none_begins c asked steps files held (config.Assembly error) h = (h, ((λ e. cc), refl))
 none_begins c asked steps files held config.NoMemory h = inl refl
+none_begins c asked steps files held _ h = (h, ((λ e. cc), refl))

@@ -1,23 +1,18 @@
--- What an event says, in each session that was stood for.
-use Rattle.std.proofs.Common.{◌≡◌, ℕ, true, false, List, [], ◌∷◌, ◌++◌, codes, Option, Some, None, is_some, Result, Ok, Err, refl, sym, ap, ◌∙◌, subst, append-nil, append_assoc}
-use Rattle.std.specs.List.{flat_map}
+-- What an event says, in each session that was represented.
+use Rattle.watch_command.proofs.Common.{[], ap, append-nil, append_assoc, came, closing, codes, Does, DoesOne, Err, Event, false, fed, first_of, flat_map, is_some, IsEmptied, IsReady, lacks_memory, left_over, line, List, None, nothing_fed, Ok, Option, others_of, piece_of, queued, Reading, reading_after, reading_of, refl, Result, SaysEach, SaysOne, SaysPiece, SaysTold, SaysWhatCame, Some, Stream, subst, sym, tail_after, told, told_each, true, Unframed, ℕ, ◌++◌, ◌∙◌, ◌∷◌, ◌≡◌}
 use Rattle.framing.proofs.Passing.{nothing_read}
-use Rattle.framing.specs.Reading.{Reading, reading_of}
-use Rattle.framing.specs.Streams.{Unframed, fed, first_of, nothing_fed, others_of, reading_after}
 use Rattle.session.specs.Effects.{EndsWell, ran_out}
 use Rattle.session.specs.Kept.{Happens, Kept, Stands}
 use Rattle.session.specs.Sessions.{Answer, Effect, Session, histories}
 use Rattle.session.specs.declared.event.Applied.{Applied}
-use Rattle.session.specs.declared.event.Event.{Event}
 use Rattle.session.specs.declared.event.EventError.{EventError}
 use Rattle.session.specs.declared.event.EventError.TheVariants as error
 use Rattle.session.specs.declared.event.LinkFault.{LinkFault}
 use Rattle.watch_command.proofs.Leaving.{tail_on}
-use Rattle.watch_command.specs.Conversing.{Does, DoesOne, IsEmptied, IsReady, SaysEach, SaysOne, SaysPiece, SaysTold, SaysWhatCame, Stream, after, came, closing, lacks_memory, left_over, piece_of, queued, said, tail_after, told, told_each}
-use Rattle.watch_command.specs.Shown.{line}
+use Rattle.watch_command.specs.Conversing.{after, said}
 use Rattle.watch_command.specs.declared.asked.Asked.{Asked}
 
--- where memory was left, the answer is the event's, and what is kept stands for what the event leaves
+-- where memory was left, the answer is the event's, and what is kept represents what the event leaves
 ended_well : (s : Session) (e : Event) (new : Kept) (x : Applied) (o : Option ℕ) → is_some o ≡ false
     → EndsWell histories s e x o (λ t. Stands new t) → (Answer s e ≡ Ok x) × Stands new (Effect s e)
 ended_well s e new x None none h = h
@@ -204,7 +199,6 @@ piece_inside n piece fault old inside u v bytes text between text' is ready b f 
     (piece_said n piece fault inside u v bytes text between text'
     (subst (λ (s : Stream). IsReady s) (sym is) ready) b f emptied lines closes)
 
--- the line of what is left
 pub left_line : (n : ℕ) (left text text' : List ℕ) → (left ≡ [] → ⊥) → text' ≡ text ++ line n (codes " -- ") left
     → text' ≡ text ++ left_over n left
 left_line n [] text text' some h = absurd (some refl)

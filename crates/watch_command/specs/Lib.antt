@@ -6,3 +6,5 @@ pub mod Playing
 pub mod Shown
 -- what was said
 pub mod Conversing
+-- what private clauses alone cite
+pub mod Private

@@ -71,7 +71,7 @@ abbrev pub IsCut : Config → Cut → List Event → ℕ → ℕ → Type 0
 IsCut c (At count) events connection n = n ≡ count
 IsCut c All events connection n = Queues c greatest_limits events connection (Ok n)
 
--- what `watch` answers for so many bytes; or why it is not known how many all are
+-- what `watch` answers for the bytes of the cut; or why it is not known how many all are
 abbrev pub WatchAnswers : Config → List Event → Watch → Result Watched WatchError → Type 0
 WatchAnswers c events w (Ok watched) = (n : ℕ) × (IsCut c w.cut events w.connection n
     × Watches c greatest_limits events w.connection n (Ok watched))
@@ -127,25 +127,3 @@ Fails (Line number) text files files' before after =
     (after ≡ before) × ((script_of text ≡ Err number) ⊎ Played text files files' (WatchesNone number))
 Fails Write text files files' before after = Played text files files' IsSomething
 Fails NoMemory text files files' before after = after ≡ before
-
--- ---- for private clauses alone
-
--- the files gave what an event takes, and what events take
-abbrev pub HasEvent : Step → KnownReads → KnownReads → Event → Type 0
-HasEvent s before after event =
-    (file : Option (List ℕ)) × (Records before after (read_for (path_in s) file) × (event ≡ event_of s file))
-
-abbrev pub HasEvents : List Step → KnownReads → KnownReads → List Event → Type 0
-HasEvents steps before after events =
-    (reads : List FileRead) × (Records before after reads × AreEvents steps reads events)
-
--- what is said of a script whose steps are not watched, by the number of its last line
-abbrev pub unwatched : ℕ → WatchError → ScriptFault
-unwatched last (watch.Config error) = NoMemory
-unwatched last watch.NoSuchConnection = Line last
-unwatched last watch.CutTooLong = Line last
-unwatched last watch.NoMemory = NoMemory
-
-abbrev pub fault_of : ℕ → WatchFault → ScriptFault
-fault_of last (fault.Unwatched error) = unwatched last error
-fault_of last fault.Write = Write

@@ -5,7 +5,7 @@ use session::ConfigError;
 use std::alloc::AllocError;
 use thiserror::Error;
 
-/// What is asked for: the lines of which events, which count from 1, and whether after each message what an editor knows by then.
+/// What is asked for: from which event to which, counted from 1, and whether each message is followed by what an editor then knows.
 #[derive(Clone, Copy, Debug, PartialEq, Eq)]
 pub struct Asked {
     /// The number of the first.

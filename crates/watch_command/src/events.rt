@@ -2,8 +2,7 @@
 ghost use Rattle.std.specs.Prelude.{◌≡◌, IfOk};
 ghost use Rattle.transport.specs.Files.{Records};
 ghost use Rattle.transport.specs.Rounds.{read_for};
-ghost use Rattle.watch_command.specs.Playing as spec;
-ghost use Rattle.watch_command.specs.Playing.{HasEvent, HasEvents};
+ghost use Rattle.watch_command.specs.Private.Playing.{HasEvent, HasEvents};
 
 use scripts::Step;
 use session::{Bytes, Event};

@@ -4,7 +4,8 @@ ghost use Rattle.framing.specs.Headers.{begins_with_end, end_of};
 ghost use Rattle.framing.specs.Reading.{reading_of};
 ghost use Rattle.framing.specs.Streams.{fed, nothing_fed};
 ghost use Rattle.watch_command.specs.Conversing as spec;
-ghost use Rattle.watch_command.specs.Conversing.{HasLeft};
+ghost use Rattle.watch_command.specs.Private.Conversing as inner;
+ghost use Rattle.watch_command.specs.Private.Conversing.{HasLeft};
 
 use framing::{FrameError, Unframer};
 use session::BODY_LIMIT;
@@ -43,7 +44,7 @@ pub(crate) fn bodies_of(alloc: Global, bytes: &[u8]) -> Result<Unframer, AllocEr
     }
 }
 
-/// The bytes of a connection that came after the last whole frame; none where they go on as no frame can. It fails where no memory is left.
+/// The bytes of a connection after its last whole frame; none where they continue as no frame can. It fails where no memory is left.
 pub(crate) fn left_in(alloc: Global, bytes: &[u8]) -> Result<&[u8], AllocError>
     ensures { IfOk result (λ left.
         left.now ≡ spec.rest_of (reading_of 1048576 bytes.now).tail) }
@@ -70,7 +71,7 @@ fn after_frames<'a>(bytes: &'a [u8], unframer: &mut Unframer) -> &'a [u8]
 
 // The bytes after a frame whose body has this length.
 fn after_frame(bytes: &[u8], length: usize) -> &[u8]
-    ensures { result.now ≡ spec.after_frame bytes.now length (end_of bytes.now) }
+    ensures { result.now ≡ inner.after_frame bytes.now length (end_of bytes.now) }
 {
     match end_of(bytes) {
         Some(size) => after(bytes, size.saturating_add(length)),
@@ -99,7 +100,7 @@ fn begins_with_end(bytes: &[u8]) -> bool
     bytes[0] == b'\r' && bytes[1] == b'\n' && bytes[2] == b'\r' && bytes[3] == b'\n'
 }
 
-/// The bytes after so many.
+/// The bytes after the first `count`.
 pub(crate) fn after(bytes: &[u8], count: usize) -> &[u8]
     ensures { result.now ≡ drop count bytes.now }
 {

@@ -1,7 +1,8 @@
 //! What an editor knows after a message.
 ghost use Rattle.std.specs.Prelude.{◌≡◌, ◌++◌, OnOk};
 ghost use Rattle.watch_command.specs.Conversing as spec;
-ghost use Rattle.watch_command.specs.Conversing.{SaysTold};
+ghost use Rattle.watch_command.specs.Private.Conversing as inner;
+ghost use Rattle.watch_command.specs.Private.Conversing.{SaysTold};
 ghost use Rattle.watch_command.specs.Playing.{HasShortPath};
 
 use crate::asked::Asked;
@@ -16,8 +17,8 @@ use std::alloc::{AllocError, Global};
 use std::cmp;
 use watch_events::{Watched, watch};
 
-/// What it takes to say what an editor knows after a message: what the session is made of, its events, the connection that there is, or
-/// was last, and how many bytes were queued for it.
+/// What it takes to say what an editor knows after a message: what the session is made of, its events, the newest connection,
+/// and how many bytes were queued for it.
 #[derive(Drop)]
 pub(crate) struct Knowing<'a> {
     alloc: Global,
@@ -83,7 +84,7 @@ impl<'a> Knowing<'a> {
     ) -> Result<(), AllocError>
         requires { HasShortPath self.old.config }
         ensures lines { OnOk result
-            (spec.SaysEach number unframer.old.waiting text.old.items text.new.items) }
+            (inner.SaysEach number unframer.old.waiting text.old.items text.new.items) }
         ensures same { self.new.config ≡ self.old.config }
     {
         while let Some(body) = unframer.next_body() {
@@ -101,7 +102,7 @@ impl<'a> Knowing<'a> {
     ) -> Result<(), AllocError>
         requires { HasShortPath self.old.config }
         ensures lines { OnOk result
-            (spec.SaysOne number body.now text.old.items text.new.items) }
+            (inner.SaysOne number body.now text.old.items text.new.items) }
         ensures same { self.new.config ≡ self.old.config }
     {
         add_line(self.alloc, text, number, b" <- ", body)?;
@@ -145,7 +146,7 @@ fn indented(alloc: Global, watched: &Watched, memory_size: u32) -> Result<Vec<u8
     Ok(text)
 }
 
-// The first events, so many.
+// The first `count` events.
 fn first(events: &[Event], count: usize) -> &[Event] {
     &events[..cmp::min(count, events.len())]
 }

@@ -1,4 +1,4 @@
-//! Scripts that are played, and what an editor then knows, beside what there was to see; or what was said.
+//! Scripts that are played, and what an editor then knows, beside what could be seen; or what was said.
 #![tactic(auto)]
 
 mod asked;

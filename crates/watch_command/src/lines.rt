@@ -1,4 +1,4 @@
-//! What is known, a line for each fact, and beside it what there was to see.
+//! What is known, a line for each fact, and beside it what could be seen.
 
 use facts::{BreakInfo, RunState};
 use mirror::Mirror;
@@ -19,7 +19,7 @@ const BREAKS: usize = 1_024;
 /// Memory begins at this address.
 const FIRST_ADDRESS: u32 = 65_536;
 
-/// All that is known, a line for each fact: its value, and the value that there was to see, or `-` where there was nothing. First how the
+/// All that is known, a line for each fact: its value, and the value that could be seen, or `-` where there was none. First how the
 /// machine runs; then the breakpoints of the program's source, those at instructions and those at functions, the frames, the registers,
 /// and the bytes of a memory of this size, each in the order of their places.
 pub(crate) fn lines_of(
@@ -60,7 +60,7 @@ fn add_state(text: &mut String, state: RunState) -> Result<(), AllocError> {
     }
 }
 
-// The breakpoints in the source of the program that there was to see.
+// The breakpoints in the source of the program that could be seen.
 fn add_source_breaks(
     text: &mut String,
     mirror: &Mirror,
@@ -182,7 +182,7 @@ fn add_bytes(
     Ok(())
 }
 
-// The end of a line: a word that is known, and the one that there was to see.
+// The end of a line: a word that is known, and the one that could be seen.
 fn add_words(text: &mut String, known: u32, seen: Option<u32>) -> Result<(), AllocError> {
     match seen {
         Some(seen) => write!(text, "0x{known:08x} 0x{seen:08x}\n"),

@@ -1,7 +1,9 @@
 //! A script that is replayed as a conversation.
 ghost use Rattle.std.specs.Prelude.{◌≡◌, IfOk};
 ghost use Rattle.watch_command.specs.Conversing as spec;
-ghost use Rattle.watch_command.specs.Conversing.{IsReady, Replays, ReplaysIn, Shows, ShowsAll, Writes};
+ghost use Rattle.watch_command.specs.Private.Conversing as inner;
+ghost use Rattle.watch_command.specs.Conversing.{Replays};
+ghost use Rattle.watch_command.specs.Private.Conversing.{IsReady, ReplaysIn, Shows, ShowsAll, Writes};
 ghost use Rattle.watch_command.specs.Playing.{HasShortPath};
 
 use crate::asked::{Asked, ReplayFault, Unwritten};
@@ -47,7 +49,7 @@ pub fn replay<F: Files, W: Write>(
 }
 
 fn answered(written: Result<(), Unwritten>) -> Result<(), ReplayFault>
-    ensures { result ≡ spec.answered written }
+    ensures { result ≡ inner.answered written }
 {
     match written {
         Ok(()) => Ok(()),
@@ -57,7 +59,7 @@ fn answered(written: Result<(), Unwritten>) -> Result<(), ReplayFault>
 }
 
 fn no_session(error: ConfigError) -> ReplayFault
-    ensures { result ≡ spec.no_session error }
+    ensures { result ≡ inner.no_session error }
 {
     match error {
         ConfigError::NoMemory => ReplayFault::NoMemory,

@@ -2,7 +2,8 @@
 ghost use Rattle.std.specs.Prelude.{◌≡◌, ◌++◌, IfOk, OnOk};
 ghost use Rattle.session.specs.declared.event.Applied.TheVariants as applied;
 ghost use Rattle.watch_command.specs.Conversing as spec;
-ghost use Rattle.watch_command.specs.Conversing.{DoesOne, IsReady};
+ghost use Rattle.watch_command.specs.Private.Conversing as inner;
+ghost use Rattle.watch_command.specs.Private.Conversing.{DoesOne, IsReady};
 ghost use Rattle.watch_command.specs.Playing.{HasShortPath};
 
 use crate::asked::Asked;
@@ -71,7 +72,7 @@ fn piece_of(event: &Event) -> &[u8]
 
 // Whether no memory was left.
 fn lacks_memory(answer: Result<Applied, EventError>) -> bool
-    ensures { result ≡ spec.lacks_memory answer }
+    ensures { result ≡ inner.lacks_memory answer }
 {
     match answer {
         Ok(done) => has_run_out(done),
@@ -81,7 +82,7 @@ fn lacks_memory(answer: Result<Applied, EventError>) -> bool
 }
 
 fn has_run_out(done: Applied) -> bool
-    ensures { result ≡ spec.has_run_out done }
+    ensures { result ≡ inner.has_run_out done }
 {
     match done {
         Applied::Slice(sliced) => has_ended_without(sliced),
@@ -90,7 +91,7 @@ fn has_run_out(done: Applied) -> bool
 }
 
 fn has_ended_without(sliced: Sliced) -> bool
-    ensures { result ≡ spec.has_run_out (applied.Slice sliced) }
+    ensures { result ≡ inner.has_run_out (applied.Slice sliced) }
 {
     match sliced.ending {
         SliceEnd::NoMemory => true,

@@ -3,7 +3,7 @@ ghost use Rattle.std.specs.Prelude.{◌≡◌, ◌<◌, ◌++◌, OnOk};
 ghost use Rattle.std.specs.List.{flat_map};
 ghost use Rattle.std.specs.Str.{is_utf8};
 ghost use Rattle.watch_command.specs.Shown as spec;
-ghost use Rattle.watch_command.specs.Conversing.{IsEmptied};
+ghost use Rattle.watch_command.specs.Private.Conversing.{IsEmptied};
 
 use framing::Unframer;
 use std::alloc::{AllocError, Global};

@@ -2,7 +2,8 @@
 ghost use Rattle.std.specs.Prelude.{◌≡◌, ◌++◌, [], IfOk, Ok, OnOk};
 ghost use Rattle.framing.specs.Reading.Tail.{Partial};
 ghost use Rattle.watch_command.specs.Conversing as spec;
-ghost use Rattle.watch_command.specs.Conversing.{IsReady, SaysWhatCame};
+ghost use Rattle.watch_command.specs.Private.Conversing as inner;
+ghost use Rattle.watch_command.specs.Private.Conversing.{IsReady, SaysWhatCame};
 
 use crate::fed::{feed, left_in, next_unframer};
 use crate::shown::{add_bodies, add_line};
@@ -21,7 +22,7 @@ pub(crate) struct Stream {
 }
 
 impl Model for Stream {
-    ghost use Rattle.watch_command.specs.Conversing.{Stream};
+    ghost use Rattle.watch_command.specs.Private.Conversing.{Stream};
 
     ghost Value = { Stream };
 
@@ -113,7 +114,7 @@ impl Stream {
         fault: Option<LinkFault>,
     ) -> Result<(), AllocError>
         requires { IsReady self.old }
-        ensures { OnOk result (spec.SaysPiece number piece.now fault self.old self.new
+        ensures { OnOk result (inner.SaysPiece number piece.now fault self.old self.new
             text.old.items text.new.items) }
     {
         self.bytes.extend_from_slice(piece)?;

@@ -1,6 +1,7 @@
 //! A script is played.
 ghost use Rattle.std.specs.Prelude.{◌≡◌, IfErr, OnOk};
 ghost use Rattle.watch_command.specs.Playing as spec;
+ghost use Rattle.watch_command.specs.Private.Playing as inner;
 ghost use Rattle.watch_command.specs.Playing.{Done, Fails, HasShortPath, HasWatched, IsSomething, Played, StepsFail, WatchAnswers};
 
 use crate::configs::copy_of;
@@ -40,7 +41,7 @@ impl From<AllocError> for WatchFault {
 }
 
 /// Plays a script: does its events in a session with 1 MiB of memory, no program and the greatest limits, and writes what an editor
-/// knows by what its last line watches, a line for each fact, beside what there was to see. A file that cannot be read is given as none.
+/// knows by what its last line watches, a line for each fact, beside what could be seen. A file that cannot be read is given as none.
 ///
 /// - `Line`: the first line that is not what it is to be, and then the last line, where no connection has the number that it watches, or
 ///   fewer bytes were queued for it. Nothing was written.
@@ -129,7 +130,7 @@ fn config() -> Config
 
 // What is said of a script whose steps are not watched.
 fn fault_of(fault: WatchFault, last: u64) -> ScriptFault
-    ensures { result ≡ spec.fault_of last fault }
+    ensures { result ≡ inner.fault_of last fault }
 {
     match fault {
         WatchFault::Unwatched(error) => unwatched(error, last),
@@ -138,7 +139,7 @@ fn fault_of(fault: WatchFault, last: u64) -> ScriptFault
 }
 
 fn unwatched(error: WatchError, last: u64) -> ScriptFault
-    ensures { result ≡ spec.unwatched last error }
+    ensures { result ≡ inner.unwatched last error }
 {
     match error {
         WatchError::NoSuchConnection | WatchError::CutTooLong => ScriptFault::Line(last),

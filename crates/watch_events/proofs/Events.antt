@@ -1,28 +1,20 @@
 -- What is kept while events are done stays so: of each event.
-use Rattle.std.proofs.Common.{◌≡◌, ℕ, zero, suc, ◌+◌, Bool, true, false, cond, eqb, leb, ltb, List, [], ◌∷◌, ◌++◌, length, get_or, Option, Some, None, option_map, Result, Ok, Err, refl, sym, ap, ◌∙◌, subst, arith}
-use Rattle.std.proofs.lemmas.Bool.Decides.{nat_tests}
+use Rattle.watch_events.proofs.Common.{[], Accept, Answer, ap, arith, Bool, bytes_of, cond, Effect, eqb, Err, Event, false, get_or, histories, IsReached, Kept, last_seen, leb, length, Life, life_of, List, lives, ltb, nat_tests, no_life, None, Ok, Open, Option, option_map, refl, Result, Said, Session, sight, Some, Stands, start, subst, suc, sym, told_within, Tracked, Tracks, true, up_to_fault, with_piece, zero, ℕ, ◌++◌, ◌+◌, ◌∙◌, ◌∷◌, ◌≡◌}
 use Rattle.session_laws.proofs.ByForms.{on}
 use Rattle.session.proofs.Reaching.{if_keeps, led_append}
 use Rattle.session.specs.Reached.{Whole}
 use Rattle.session_laws.proofs.Reading.{up_to_fault-append}
 use Rattle.session_laws.proofs.Refusing.{refused_changes_nothing}
 use Rattle.session.specs.Effects.{after_all, performed}
-use Rattle.session.specs.Kept.{Kept, Stands}
 use Rattle.session.specs.Outcomes.{Outcome, done, outcome_at, refused}
-use Rattle.session.specs.Sessions.{Answer, Effect, Life, Said, Session, bytes_of, histories, life_of, lives, no_life, start, up_to_fault}
-use Rattle.session.specs.Acts.{Accept, Open}
-use Rattle.headline.specs.News.{sight}
 use Rattle.session.specs.declared.event.Applied.{Applied}
 use Rattle.session.specs.declared.event.Applied.TheVariants as applied
-use Rattle.session.specs.declared.event.Event.{Event}
 use Rattle.session.specs.declared.event.Event.TheVariants.{Connect, Recv, Hold, Sent, DropConnection}
 use Rattle.session.specs.declared.event.EventError.{EventError}
 use Rattle.session.specs.declared.event.EventError.TheVariants as error
 use Rattle.session.specs.declared.link.Link.{Link}
 use Rattle.session.specs.declared.state.TheConstants.{LAST_CONNECTION, MOST_PENDING, MOST_PIECE}
 use Rattle.watch_events.proofs.Tracking.{others_same, ours, seen_place, with_session}
-use Rattle.headline.specs.Concluding.{last_seen, told_within}
-use Rattle.watch_events.specs.Tracking.{IsReached, Tracked, Tracks, with_piece}
 
 -- ---- an event more
 

@@ -1,15 +1,9 @@
 -- The last message in some bytes, where they have no fault.
-use Rattle.std.proofs.Common.{◌≡◌, ℕ, Bool, List, [], ◌∷◌, map, Option, Some, None, option_map, Result, Ok, Err, refl, sym, ap, ◌∙◌, subst}
-use Rattle.framing.specs.Reading.{reading_of}
+use Rattle.watch_events.proofs.Common.{[], ap, body_limit, Bool, Err, error_in, error_more, error_of, first_fault, last_from, List, map, Message, message_of, messages_more, messages_of, messages_so_far, None, Ok, Option, option_map, reading_of, refl, Result, SaidBy, says_output, Some, stream_fault, subst, sym, waits_by, ℕ, ◌∙◌, ◌∷◌, ◌≡◌}
 use Rattle.framing.specs.Streams.{Unframed, fault_of, first_of, lent_from, others_of}
 use Rattle.framing.specs.declared.error.FrameError.{FrameError}
-use Rattle.mirror.proofs.Streaming.{error_more, messages_more, waits_by}
-use Rattle.mirror.specs.Streams.{body_limit, error_in, error_of, first_fault, message_of, messages_of, messages_so_far, stream_fault}
 use Rattle.mirror.specs.declared.error.MirrorError.{MirrorError}
 use Rattle.protocol.specs.declared.request.MessageError.{MessageError}
-use Rattle.replies.specs.declared.message.Message.{Message}
-use Rattle.headline.specs.News.{says_output}
-use Rattle.watch_events.specs.Tracking.{SaidBy, last_from}
 
 last_of_map : {A B : Type 0} (f : A → B) (before : Option A) (xs : List A)
     → last_from (option_map f before) (map f xs) ≡ option_map f (last_from before xs)
@@ -74,7 +68,6 @@ one_less u v body bytes says last lent first said h =
       error = error_more u v body m.0 None lent first m.1 h.error;
     }
 
--- none is left
 none_left : (bodies : List (List ℕ)) → None ≡ first_of bodies → bodies ≡ []
 none_left [] e = refl
 none_left (b ∷ bs) e = absurd (apart e) where

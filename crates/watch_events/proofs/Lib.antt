@@ -1,3 +1,4 @@
+pub mod Common
 pub mod Tracking
 pub mod Events
 pub mod Lasts

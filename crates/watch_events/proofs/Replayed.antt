@@ -1,13 +1,9 @@
 -- All events are done, and what is watched then.
-use Rattle.std.proofs.Common.{Err, ◌≡◌, ℕ, zero, suc, leb, ◌+◌, ◌<◌, ◌≤◌, Bool, true, false, List, [], ◌∷◌, ◌++◌, map, length, take, get_or, Option, Some, None, option_map, Result, Ok, refl, sym, ap, ◌∙◌, subst, arith}
-use Rattle.std.specs.Prelude.{◌&&◌}
+use Rattle.watch_events.proofs.Common.{[], After, after, ap, arith, Beginning, Bool, bytes_of, Captured, CountsQueued, Err, Event, false, get_or, Input, is_made, IsTold, Keeps, Kept as SessionKept, known_after, last_seen, leb, length, Life, life_of, List, map, nat_tests, no_life, None, Ok, Option, option_map, reading_of, refl, remembered, requests_of, Result, Said, SameWatched, Session, Shows, sight, Sight, sight_in, Some, Stands, StandsFor, start, stream_fault, subst, suc, sym, take, told_within, Tracked, Tracks, true, untouched, WasSo, zero, ℕ, ◌&&◌, ◌++◌, ◌+◌, ◌<◌, ◌∙◌, ◌∷◌, ◌≡◌, ◌≤◌}
 use Rattle.std.proofs.lemmas.Bool.{and_parts}
-use Rattle.std.proofs.lemmas.Bool.Decides.{nat_tests}
 use Rattle.std.proofs.lemmas.List.{length-take-le}
 use Rattle.facts.specs.Facts.{Facts, nothing_known}
-use Rattle.framing.specs.Reading.{reading_of}
 use Rattle.mirror.specs.Kept.{Kept, facts_of}
-use Rattle.mirror.specs.Streams.{Input, StandsFor, after, stream_fault}
 use Rattle.mirror.specs.Streams.Input.{Sent, Fed}
 use Rattle.protocol.specs.declared.request.Request.{Request as ARequest}
 use Rattle.session.proofs.Reaching.{whole_events}
@@ -18,27 +14,20 @@ use Rattle.session_laws.proofs.Reading.{asks_up_to}
 use Rattle.queues.specs.Arrivals.{asks_of}
 use Rattle.session.specs.Begins.{AreRight, HasBegun}
 use Rattle.session.specs.Config.{HasImage}
-use Rattle.session.specs.Kept.{Kept as SessionKept, Stands}
-use Rattle.session.specs.Sessions.{After, Beginning, Life, Said, Session, bytes_of, life_of, no_life, start}
 use Rattle.snapshots.specs.Shown.{Snapshot}
-use Rattle.snapshots.specs.Snapshots.{Captured}
 use Rattle.session.specs.declared.config.Config.{Config}
-use Rattle.session.specs.declared.event.Event.{Event}
 use Rattle.session.specs.declared.limits.Limits.{Limits}
 use Rattle.mirror.specs.declared.asked.Asked.{Asked}
 use Rattle.watch_events.proofs.Events.{after_more}
 use Rattle.headline.proofs.Editing.{fed_first, is_editor}
 use Rattle.headline.specs.Headline.{MirrorsHoldWhatWasSo}
 use Rattle.headline.proofs.Mirrored.{mirrors_hold}
-use Rattle.headline.specs.Concluding.{WasSo, known_after, last_seen, remembered, told_within}
 use Rattle.headline.specs.Holding.{Holds}
 use Rattle.headline.specs.Editors.{fed_in, requests_in, told_first}
 use Rattle.headline.specs.Headline.{HoldsWhatWasSo, WereSo, known_within}
-use Rattle.headline.specs.News.{Sight, sight}
 use Rattle.message_laws.proofs.Readable.{messages_are_readable}
 use Rattle.message_laws.specs.Messages.{HasPath, IsPath}
-use Rattle.watch_events.specs.Replaying.{Begun, CountsQueued, HoldsOf, IsMade, IsTold, IsWatched, Queues, queued_for, requests_of, Shows, Watches}
-use Rattle.watch_events.specs.Tracking.{Keeps, SameWatched, Tracked, Tracks, is_made, sight_in, untouched}
+use Rattle.watch_events.specs.Replaying.{Begun, HoldsOf, IsMade, IsWatched, Queues, queued_for, Watches}
 use Rattle.watch_events.specs.declared.watching.WatchError.{WatchError}
 use Rattle.watch_events.specs.declared.watching.WatchError.TheVariants as watch
 use Rattle.watch_events.specs.declared.watching.Watched.{Watched}

@@ -1,10 +1,7 @@
 -- A mirror is told the requests that came.
-use Rattle.std.proofs.Common.{◌≡◌, ℕ, true, false, List, [], ◌∷◌, ◌++◌, map, fold, Option, Some, None, Result, Ok, Err, inl, inr, refl, sym, ap, ◌∙◌, subst, append-nil, append_assoc}
-use Rattle.framing.specs.Reading.{reading_of}
+use Rattle.watch_events.proofs.Common.{[], after, after_input, ap, append-nil, append_assoc, Err, false, FeedsPast, fold, inl, Input, inr, IsTold, List, map, None, nothing_past, Ok, Option, Past, reading_of, refl, requests_of, Result, Some, StandsFor, subst, sym, TellsBody, TellsOne, TellsPast, true, waits_by, with_request, ℕ, ◌++◌, ◌∙◌, ◌∷◌, ◌≡◌}
 use Rattle.framing.specs.Streams.{Unframed, first_of, lent_from, others_of}
-use Rattle.mirror.proofs.Streaming.{waits_by}
 use Rattle.mirror.specs.Kept.{Kept}
-use Rattle.mirror.specs.Streams.{FeedsPast, Input, Past, StandsFor, TellsPast, after, after_input, nothing_past, with_request}
 use Rattle.mirror.specs.Streams.Input.{Sent, Fed}
 use Rattle.mirror.specs.declared.error.MirrorError.{MirrorError}
 use Rattle.mirror.specs.declared.error.MirrorError.TheVariants as mirror
@@ -16,7 +13,6 @@ use Rattle.protocol.specs.declared.request.MessageError.TheVariants as message
 use Rattle.protocol.specs.declared.request.Request.{Request as ARequest}
 use Rattle.queues.specs.Arrivals.{asks_in, asks_of}
 use Rattle.headline.specs.Editors.{requests_in}
-use Rattle.watch_events.specs.Replaying.{IsTold, TellsBody, TellsOne, requests_of}
 
 -- ---- one input more
 
@@ -33,7 +29,7 @@ sent_more (x ∷ xs) r = ap (λ (l : List Input). Sent x ∷ l) (sent_more xs r)
 abbrev pub requests_left : List (List ℕ) → List ARequest
 requests_left bodies = requests_in (asks_of bodies)
 
--- so many were told, and these are left
+-- some were told, and these are left
 pub record Telling (waiting : List (List ℕ)) (all : List ARequest) (k : Kept) : Type 0 where
   pub told : List ARequest
   pub stands : StandsFor k (after (map Sent told))
@@ -43,7 +39,7 @@ pub first_telling : (bytes : List ℕ) (waiting : List (List ℕ)) (k : Kept) �
     → StandsFor k nothing_past → Telling waiting (requests_of bytes) k
 first_telling bytes waiting k e st = record { told = []; stands = st; rest = ap requests_left e }
 
--- what comes of the first body
+-- what the first body adds
 abbrev pub requests_by : Incoming → List ARequest → List ARequest
 requests_by (IsRequest r) rest = r ∷ rest
 requests_by (IsBad seq command refusal) rest = rest

@@ -1,20 +1,13 @@
 -- An event more of a connection that is watched.
-use Rattle.std.proofs.Common.{◌≡◌, ℕ, ◌+◌, ◌-◌, ◌≤◌, Bool, true, false, eqb, ltb, List, length, drop, Option, Some, None, option_map, Result, Ok, Err, refl, sym, ap, ◌∙◌, subst, arith}
-use Rattle.replies.specs.declared.message.Message.{Message}
-use Rattle.std.specs.Prelude.{OnOk}
+use Rattle.watch_events.proofs.Common.{answered, ap, arith, Bool, Captured, drop, Effect, eqb, Err, Event, false, Happens, histories, is_current, IsAtRest, IsFollowed, IsReached, IsSeenAfter, IsSeenNow, Keeps, Kept, length, List, ltb, Message, None, Noted, NotedIf, Now, Ok, OnOk, Option, option_map, refl, Result, SameBut, says_output, SeenAfter, Session, Some, Stands, Steps, subst, sym, taken_at, Tracked, Tracks, true, with_piece, ℕ, ◌+◌, ◌-◌, ◌∙◌, ◌≡◌, ◌≤◌}
 use Rattle.std.specs.declared.alloc.AllocError.{AllocError}
 use Rattle.session.proofs.Enough.{each_ends}
 use Rattle.session_laws.proofs.Joined.{Still, at_end, at_once, histories_follow, slices_join}
-use Rattle.session.specs.Acts.{Now}
 use Rattle.session.specs.Effects.{EndsWell, Slicing, ended_as, enough, ran_out_at, slice_answer, sliced}
-use Rattle.session.specs.Kept.{Happens, Kept, Stands, answered}
-use Rattle.session.specs.Sessions.{Effect, Session, histories}
-use Rattle.snapshots.specs.Snapshots.{Captured}
 use Rattle.session.specs.declared.event.Applied.{Applied}
 use Rattle.session.specs.declared.event.Applied.TheVariants as applied
 use Rattle.session.specs.declared.event.SliceEnd.{SliceEnd}
 use Rattle.session.specs.declared.event.SliceEnd.TheVariants as ending
-use Rattle.session.specs.declared.event.Event.{Event}
 use Rattle.session.specs.declared.event.Event.TheVariants.{Connect, Recv, Turn, Slice, Hold, Sent, DropConnection}
 use Rattle.session.specs.declared.event.EventError.{EventError}
 use Rattle.session.specs.declared.event.EventError.TheVariants as error
@@ -23,8 +16,6 @@ use Rattle.session.specs.declared.event.Turned.{Turned}
 use Rattle.watch_events.proofs.Events.{connect_keeps, drop_keeps, hold_keeps, reached_next, recv_keeps, refused_keeps, sent_keeps}
 use Rattle.headline.proofs.Seen.{seen_after}
 use Rattle.watch_events.proofs.Tracking.{noted_keeps, with_session}
-use Rattle.headline.specs.News.{IsAtRest, IsFollowed, IsSeenAfter, says_output}
-use Rattle.watch_events.specs.Tracking.{IsReached, IsSeenNow, Keeps, Noted, NotedIf, SameBut, SeenAfter, Steps, Tracked, Tracks, is_current, taken_at, with_piece}
 
 -- ---- an event that is refused
 
@@ -83,12 +74,8 @@ turns old new k file turned h noted same s r t =
     noted_keeps old new s (Effect s (Turn file)) k r (reached_next s (Turn file) r) t ((seen_here s r).turn file) x.1 same noted
 
 no_memory_is : (e : SliceEnd) (moved : ℕ) → (e ≡ ending.NoMemory → ⊥) → ran_out_at moved e ≡ None
-no_memory_is ending.Spent moved never = refl
-no_memory_is ending.Full moved never = refl
-no_memory_is ending.Idle moved never = refl
-no_memory_is ending.Stopped moved never = refl
-no_memory_is ending.Ended moved never = refl
 no_memory_is ending.NoMemory moved never = absurd (never refl)
+no_memory_is _ moved never = refl
 
 same_slice : (a b : Sliced) → (let r : Result Applied EventError = Ok (applied.Slice a) in r) ≡ Ok (applied.Slice b) → a ≡ b
 same_slice a b e = cc
@@ -148,7 +135,7 @@ module _ (inner old : Tracked) (is : inner ≡ old) where
       → Tracks (with_session inner k) (Effect s DropConnection)
   drops_inside k result never h s r t = drops inner k result never h s r (inside s t)
 
-  -- so many bytes waited before
+  -- this many bytes waited before
   noted_from : (k : Kept) (new : Tracked) (before : ℕ) → before ≡ length inner.session.waiting
       → NotedIf (is_current (with_session inner k)) (drop before k.waiting) (with_session inner k) new
       → NotedIf (is_current (with_session inner k)) (drop (length inner.session.waiting) k.waiting) (with_session inner k) new
@@ -173,14 +160,10 @@ module _ (inner old : Tracked) (is : inner ≡ old) where
 
 -- ---- a slice, move by move
 
--- what a slice of so many moves left is at rest where it ended because they were made, and is done with where it ended otherwise
+-- what a slice left is at rest where it ended because its moves were made, and is done with where it ended otherwise
 abbrev pub RestsBy : SliceEnd → Session → Type 0
 RestsBy ending.Spent s = IsAtRest s
-RestsBy ending.Full s = Still s
-RestsBy ending.Idle s = Still s
-RestsBy ending.Stopped s = Still s
-RestsBy ending.Ended s = Still s
-RestsBy ending.NoMemory s = Still s
+RestsBy _ s = Still s
 
 rests_by : (n : ℕ) (s : Session) (e : SliceEnd) → ended_as (sliced histories n s).ending ≡ e → RestsBy e (Effect s (Slice n))
 rests_by n s e is = by e (there.1 ∙ ap (λ (x : SliceEnd). Some x) (sym (ap ended_as there.1) ∙ is)) where
@@ -195,7 +178,7 @@ rests_by n s e is = by e (there.1 ∙ ap (λ (x : SliceEnd). Some x) (sym (ap en
   by ending.Ended is = (at_end n (enough n) s).still ending.Ended is (λ x. cc)
   by ending.NoMemory is = (at_end n (enough n) s).still ending.NoMemory is (λ x. cc)
 
--- so many moves were made, and the last of them ended so
+-- this many moves were made, and the last of them ended so
 pub record Slices (made : ℕ) (e : SliceEnd) (s : Session) (new : Tracked) : Type 0 where
   pub tracks : Tracks new (Effect s (Slice made))
   pub rests : RestsBy e (Effect s (Slice made))
@@ -232,11 +215,7 @@ all_slices old new made n e all h s r t = subst (λ (m : ℕ). Tracks new (Effec
 -- or no more can be
 still_by : (e : SliceEnd) (s : Session) → (e ≡ ending.Spent → ⊥) → RestsBy e s → Still s
 still_by ending.Spent s never h = absurd (never refl)
-still_by ending.Full s never h = h
-still_by ending.Idle s never h = h
-still_by ending.Stopped s never h = h
-still_by ending.Ended s never h = h
-still_by ending.NoMemory s never h = h
+still_by _ s never h = h
 
 no_more : (s : Session) (made more : ℕ) → Still (Effect s (Slice made)) → Effect s (Slice (made + more)) ≡ Effect s (Slice made)
 no_more s made more h =

@@ -1,32 +1,22 @@
 -- What is kept while events are done stays so.
-use Rattle.std.proofs.Common.{◌≡◌, ℕ, zero, suc, ◌+◌, ◌-◌, ◌<◌, Bool, true, false, cond, eqb, leb, List, [], ◌∷◌, ◌++◌, map, length, take, drop, get_or, Option, Some, None, is_some, option_map, refl, sym, ap, ◌∙◌, subst, arith, length-append, append_assoc}
-use Rattle.std.specs.Prelude.{All, MatchOption}
+use Rattle.watch_events.proofs.Common.{[], All, ap, append_assoc, arith, as_running as captured_running, Bool, bytes_of, Captured, cond, drop, eqb, false, Fits, frame_said, get_or, is_some, IsFollowed, IsReached, IsTaken, Kept, last_from, last_seen, leb, length, length-append, Life, life_of, List, map, MatchOption, Message, messages_so_far, nat_tests, no_life, None, Noted, NotedIf, Now, Option, option_map, refl, Said, SameBut, says_output, seen_at, seen_now, SeenAfter, Session, sight, Sight, sight_by, sight_in, snapshot_of, Some, Stands, stream_fault, subst, suc, sym, take, taken_at, told_within, Tracked, Tracks, true, up_to_fault, zero, ℕ, ◌++◌, ◌+◌, ◌-◌, ◌<◌, ◌∙◌, ◌∷◌, ◌≡◌}
 use Rattle.std.specs.List.{flat_map}
-use Rattle.std.proofs.lemmas.Bool.Decides.{nat_tests}
 use Rattle.std.proofs.lemmas.List.{append_cancel_left, drop_at}
 use Rattle.std.proofs.lemmas.List.Elements.{All-head, All-tail}
 use Rattle.debuggee.specs.Programs.{Debuggee, Program, is_running}
-use Rattle.mirror.specs.Streams.{messages_so_far, stream_fault}
 use Rattle.replies.specs.declared.event.Event.TheVariants as event
-use Rattle.replies.specs.declared.message.Message.{Message}
 use Rattle.replies.specs.declared.message.Message.TheVariants.{Response as IsResponse, Event as IsEvent}
 use Rattle.session_laws.proofs.Waiting.{all_counted}
 use Rattle.session_laws.proofs.Waiting.{every_byte_is_taken_or_waits}
 use Rattle.session_laws.specs.Laws.{EveryByteIsTakenOrWaits}
-use Rattle.session.specs.Acts.{Now}
-use Rattle.session.specs.Kept.{Kept, Stands}
-use Rattle.session.specs.Sessions.{Life, Said, Session, bytes_of, frame_said, life_of, no_life, snapshot_of, up_to_fault}
 use Rattle.snapshots.specs.Shown.{Snapshot}
-use Rattle.snapshots.specs.Snapshots.{Captured, IsTaken, as_running as captured_running}
 use Rattle.session.specs.declared.link.Link.{Link}
 use Rattle.headline.proofs.Mirrored.{all_are_readable}
 use Rattle.headline.proofs.Readable.{IsReadable, framed_some, has_no_fault, messages_within, told_hold}
-use Rattle.headline.specs.News.{Fits, IsFollowed, Sight, as_running, says_output, seen_at, seen_now, sight, sight_by}
-use Rattle.headline.specs.Concluding.{last_seen, told_within}
+use Rattle.headline.specs.News.{as_running}
 use Rattle.headline.specs.Printed.{PrintsRunning}
 use Rattle.headline.proofs.Printed.{what_is_printed_runs}
 use Rattle.message_laws.proofs.Readable.{messages_are_readable}
-use Rattle.watch_events.specs.Tracking.{IsReached, Noted, NotedIf, SameBut, SeenAfter, Tracked, Tracks, last_from, sight_in, taken_at}
 
 -- ---- lives
 
@@ -130,7 +120,7 @@ last_seen_more : (before : Option Snapshot) (xs ys : List Said) → last_seen be
 last_seen_more before [] ys = refl
 last_seen_more before (m ∷ xs) ys = last_seen_more (Some m.snapshot) xs ys
 
--- ---- what there was to see
+-- ---- what could be seen
 
 prints : (m : Message) (d : Debuggee) → says_output m ≡ true → PrintsRunning m d → (p : Program) × (d.program ≡ Some p)
 prints (IsResponse r) d e h = absurd (let no : false ≡ true = e in cc)
@@ -196,7 +186,7 @@ seen_after t before old new (m ∷ news) last was fits runs suits h =
 
 -- ---- what an event queued is noted
 
--- the session has gone on, and what it queued is not noted yet
+-- the session has moved on, and what it queued is not noted yet
 abbrev pub with_session : Tracked → Kept → Tracked
 with_session t k = record t { session = k }
 

@@ -1,9 +1,9 @@
 -- The definitions of `watch_events`.
 
--- what `watch` shows: what is known, beside what there was to see
+-- what `watch` shows: what is known, beside what could be seen
 pub mod Replaying
--- for private clauses alone: what is kept while events are done
-pub mod Tracking
+-- what private clauses alone cite
+pub mod Private
 -- ---- of the crates below
 -- what an editor knows by the bytes that it got, and whether that is so
 pub use Rattle.headline.specs.Concluding

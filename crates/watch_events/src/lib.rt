@@ -1,4 +1,4 @@
-//! A list of events played back: what an editor knows by the bytes that it got, beside what there was to see.
+//! A list of events played back: what an editor knows by the bytes that it got, beside what could be seen.
 #![tactic(auto)]
 
 mod bodies;

@@ -3,8 +3,8 @@ ghost use Rattle.std.specs.Prelude.{◌≡◌, ◌<◌, ◌≤◌, IfOk, OnOk, d
 ghost use Rattle.std.specs.Option.{option_copied};
 ghost use Rattle.session.specs.declared.event.Event.TheVariants as event;
 ghost use Rattle.session.specs.Kept.{Kept};
-ghost use Rattle.watch_events.specs.Tracking as spec;
-ghost use Rattle.watch_events.specs.Tracking.{Keeps, NotedIf, SameBut, SameWatched, Steps};
+ghost use Rattle.watch_events.specs.Private.Tracking as spec;
+ghost use Rattle.watch_events.specs.Private.Tracking.{Keeps, NotedIf, SameBut, SameWatched, Steps};
 
 use crate::last::last_message;
 use session::{Event, EventError, Session, SliceEnd, Snapshot};
@@ -13,7 +13,7 @@ use std::cmp;
 use std::marker::Model;
 
 /// A session, and what is kept of the connection that is watched: the pieces that were accepted on it, the bytes that were queued for it,
-/// and what there was to see when the last message was queued that lies wholly in the first `count` of these.
+/// and what could be seen when the last message was queued that lies wholly in the first `count` of these.
 #[derive(Drop)]
 pub(crate) struct Track {
     alloc: Global,
@@ -29,7 +29,7 @@ pub(crate) struct Track {
 impl Model for Track {
     ghost use Rattle.breakpoints.specs.Codes.{coded_tree};
     ghost use Rattle.std.specs.Coded.{codes};
-    ghost use Rattle.watch_events.specs.Tracking.{Tracked};
+    ghost use Rattle.watch_events.specs.Private.Tracking.{Tracked};
 
     ghost coded = { Prim.hlevel (codes, coded_tree) };
 
@@ -84,7 +84,7 @@ impl Track {
         &self.queued
     }
 
-    /// What there was to see when the last message was queued.
+    /// What could be seen when the last message was queued.
     pub(crate) fn into_snapshot(self) -> Option<Snapshot>
         ensures { result ≡ self.snapshot }
     {
@@ -151,7 +151,7 @@ impl Track {
         }
     }
 
-    // Gives the program time for so many moves, one after the other, so that there is to see what each message tells.
+    // Gives the program time for these moves, one after the other, so that what each message tells can be seen.
     fn slice(&mut self, moves: u32) -> Result<(), AllocError>
         ensures keeps { Keeps (event.Slice moves) self.old result self.new }
         ensures same { SameWatched self.old self.new }
@@ -166,7 +166,7 @@ impl Track {
         Ok(())
     }
 
-    // A slice of so few moves that there is to see after it what there was at each message that it queued.
+    // A slice whose moves are few enough that what could be seen at each message that it queued can be seen after it.
     fn step(&mut self, moves: u32) -> Result<SliceEnd, AllocError>
         ensures keeps { Steps moves self.old result self.new }
         ensures same { SameWatched self.old self.new }
@@ -206,7 +206,7 @@ impl Track {
         Ok(())
     }
 
-    // Notes the bytes that wait after so many of the first, which were queued just now, if they are of the connection that is watched.
+    // Notes the bytes that wait after the first `before`, which were queued just now, if they are of the connection that is watched.
     fn note(&mut self, before: usize) -> Result<(), AllocError>
         ensures noted { OnOk result
             (NotedIf (spec.is_current self.old)
@@ -225,7 +225,7 @@ impl Track {
     }
 }
 
-// What there is to see; of the program as it runs, where that was asked for.
+// What can be seen; of the program as it runs, where that was asked for.
 fn seen(session: &Session, running: bool) -> Result<Snapshot, AllocError>
     ensures { IfOk result (λ seen. spec.IsSeenNow running session.now.now seen) }
 {
@@ -246,14 +246,14 @@ fn passed_over(error: EventError) -> Result<(), AllocError>
     }
 }
 
-// The bytes after so many.
+// The bytes after the first `count`.
 fn after(bytes: &[u8], count: usize) -> &[u8]
     ensures { result.now ≡ drop count bytes.now }
 {
     &bytes[cmp::min(count, bytes.len())..]
 }
 
-// The first bytes, so many.
+// The first `count` bytes.
 fn first(bytes: &[u8], count: usize) -> &[u8]
     ensures { result.now ≡ take count bytes.now }
 {

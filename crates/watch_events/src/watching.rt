@@ -1,9 +1,10 @@
-//! What an editor knows, beside what there was to see.
+//! What an editor knows, beside what could be seen.
 ghost use Rattle.std.specs.Prelude.{◌≡◌, IfOk, OnOk};
 ghost use Rattle.protocol.specs.Reading.{incoming_of};
 ghost use Rattle.message_laws.specs.Messages.{IsPath};
-ghost use Rattle.watch_events.specs.Replaying as spec;
-ghost use Rattle.watch_events.specs.Replaying.{CountsQueued, IsTold, Mirrors, Queues, Runs, Shows, TellsAll, TellsBody, TellsOne, Watches};
+ghost use Rattle.watch_events.specs.Private.Replaying as inner;
+ghost use Rattle.watch_events.specs.Replaying.{Queues, Watches};
+ghost use Rattle.watch_events.specs.Private.Replaying.{CountsQueued, IsTold, Mirrors, Runs, Shows, TellsAll, TellsBody, TellsOne};
 
 use crate::bodies::bodies_of;
 use crate::track::Track;
@@ -16,12 +17,12 @@ use thiserror::Error;
 /// The most bytes that the body of a request may have.
 const REQUEST_LIMIT: u32 = 1_048_576;
 
-/// What an editor knows by the first bytes of a connection, and what there was to see.
+/// What an editor knows by the first bytes of a connection, and what could be seen.
 #[derive(Drop)]
 pub struct Watched {
     /// What it knows.
     pub mirror: Mirror,
-    /// What there was to see when the last message was queued that lies wholly in these bytes; none where no message does.
+    /// What could be seen when the last message was queued that lies wholly in these bytes; none where no message does.
     pub snapshot: Option<Snapshot>,
 }
 
@@ -146,7 +147,7 @@ fn replayed(
 }
 
 fn no_session(error: ConfigError) -> WatchError
-    ensures { result ≡ spec.no_session error }
+    ensures { result ≡ inner.no_session error }
 {
     match error {
         ConfigError::NoMemory => WatchError::NoMemory,

@@ -14,7 +14,7 @@ use std::marker::Model;
 pub struct Habits {
     /// Whether it can be looked at without waiting.
     pub polls: bool,
-    /// How many bytes it takes at once, if more than 1.
+    /// How many bytes it takes at once; 0 counts as 1.
     pub most: usize,
     /// Which of its calls fails, of `recv_now`, `recv_wait` and `send` counted together from 1; none if 0.
     pub failing: u64,
@@ -128,7 +128,7 @@ impl MemoryWire {
         self.start == self.given.len() && self.piece >= self.ends.len()
     }
 
-    // Gives what there is, at most so many bytes, as much as there is room for.
+    // Gives what is there, at most `most` bytes, and no more than there is room for.
     fn give(&mut self, most: usize, room: &mut [u8]) -> usize
         ensures bound { result ≤ length room.new }
         ensures gave { Gave self.old self.new (take result room.new) }

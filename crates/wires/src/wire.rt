@@ -5,7 +5,7 @@ ghost use Rattle.wires.specs.Wires.{Line, Looks, Waits, Sends, IsWithin, one_mor
 /// What a look for bytes found.
 #[derive(Clone, Copy, Debug, PartialEq, Eq)]
 pub enum Received {
-    /// So many bytes came.
+    /// This many bytes came.
     Bytes(usize),
     /// None are there yet.
     Nothing,

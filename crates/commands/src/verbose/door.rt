@@ -13,7 +13,7 @@ pub struct VerboseDoor<'rt, D> {
 }
 
 impl<'rt, D> VerboseDoor<'rt, D> {
-    /// This door. Messages of an editor have so many bytes at most.
+    /// This door. Messages of an editor have at most `longest` bytes.
     pub fn new(rt: &'rt HostRuntime, door: D, longest: u32) -> VerboseDoor<'rt, D>
         ensures { result.door ≡ door }
     {

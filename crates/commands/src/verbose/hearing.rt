@@ -25,7 +25,7 @@ enum Heard {
     Nothing,
     // A request of this number that will be refused.
     Bad(u32, Reason),
-    // The stream goes on as no frame can.
+    // The stream continues as no frame can.
     NoFrame(FrameError),
     // A body that is no message.
     NoMessage(MessageError),
@@ -34,7 +34,7 @@ enum Heard {
 }
 
 impl Hearing {
-    /// Nothing was sent, of messages that have so many bytes at most.
+    /// Nothing was sent yet. Messages have at most `longest` bytes.
     pub(crate) fn new(alloc: Global, longest: u32) -> Hearing {
         Hearing {
             stream: Stream::new(alloc, longest),

@@ -22,7 +22,7 @@ pub(crate) struct Place {
 }
 
 impl Stream {
-    /// A stream of which nothing came, whose bodies have so many bytes at most.
+    /// A stream on which nothing came yet, whose bodies have at most `longest` bytes.
     pub(crate) fn new(alloc: Global, longest: u32) -> Stream {
         Stream {
             unframer: Unframer::new(alloc, longest),

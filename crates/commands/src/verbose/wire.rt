@@ -43,7 +43,7 @@ impl<'rt> Listener<'rt> {
 }
 
 impl<'rt, W> VerboseWire<'rt, W> {
-    /// This wire, over which nothing went yet. Messages of an editor have so many bytes at most.
+    /// This wire, over which nothing went yet. Messages of an editor have at most `longest` bytes.
     pub fn new(rt: &'rt HostRuntime, wire: W, longest: u32) -> VerboseWire<'rt, W>
         ensures { result.wire ≡ wire }
     {

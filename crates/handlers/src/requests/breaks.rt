@@ -30,7 +30,7 @@ pub(crate) fn demand() -> Demand
     Demand::program().taken_in(Phases::Debugging)
 }
 
-/// What comes of it, by the program. `Err`: no memory was left.
+/// The answer, by the program. `Err`: no memory was left.
 pub(crate) fn success(alloc: Global, lent: &Lent, command: &Command) -> Result<Answer, AllocError>
     requires sets { IsTrue (sets_breakpoints command.now) }
     ensures { IfOk result (λ a. answering_as lent.now.given.debuggee a
@@ -42,7 +42,7 @@ pub(crate) fn success(alloc: Global, lent: &Lent, command: &Command) -> Result<A
     }
 }
 
-// What is answered by the program that there is.
+// The answer, where there is a program.
 fn success_on(
     alloc: Global,
     lent: &Lent,

@@ -24,7 +24,7 @@ pub(crate) fn demand() -> Demand
     Demand::alive().taken_in(Phases::Configuring)
 }
 
-/// What comes of it: a program that was launched runs, and of one that was joined it is told how it runs. `Err`: no memory was left.
+/// The answer: a program that was launched runs; of one that was joined, the editor is told how it runs. `Err`: no memory was left.
 pub(crate) fn success(alloc: Global, lent: &Lent) -> Result<Answer, AllocError>
     ensures { IfOk result (λ a. answering_as lent.now.given.debuggee a
         ≡ spec.success lent.now.given lent.now.terms) }

@@ -1,4 +1,4 @@
-//! `continue`: the program goes on.
+//! `continue`: the program continues, without a goal.
 ghost use Rattle.std.specs.Prelude.{◌≡◌};
 ghost use Rattle.handlers.specs.Given.{Given as AGiven};
 ghost use Rattle.handlers.specs.Changes.{answering_as};
@@ -19,7 +19,7 @@ pub(crate) fn demand(thread: i32) -> Demand
     Demand::still(thread).taken_in(Phases::Active)
 }
 
-/// What comes of it.
+/// The answer, and what it changes.
 pub(crate) fn success(terms: Terms) -> Answer
     ensures { (given : AGiven) → answering_as given.debuggee result ≡ spec.success given terms }
 {

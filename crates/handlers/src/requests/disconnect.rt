@@ -19,7 +19,7 @@ pub(crate) fn demand() -> Demand
     Demand::nothing()
 }
 
-/// What comes of it.
+/// The answer, and what it changes.
 pub(crate) fn success(terms: Terms, arguments: &DisconnectArguments) -> Answer
     ensures { (given : AGiven)
         → answering_as given.debuggee result ≡ spec.success given terms arguments.now }

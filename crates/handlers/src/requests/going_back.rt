@@ -19,7 +19,7 @@ pub(crate) fn demand(thread: i32) -> Demand
     Demand::still(thread).taken_in(Phases::Active)
 }
 
-/// What comes of it: the program goes back with this goal, or no move is recorded.
+/// The answer: the program goes back with this goal, or no move is recorded.
 #[tactic(auto, using(crate::proofs::GoingBack::has_none, crate::proofs::GoingBack::has_some))]
 pub(crate) fn success(lent: &Lent, goal: Goal) -> Answer
     ensures { answering_as lent.now.given.debuggee result

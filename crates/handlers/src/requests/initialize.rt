@@ -18,7 +18,7 @@ pub(crate) fn demand() -> Demand
     Demand::nothing().taken_in(Phases::Fresh)
 }
 
-/// What comes of it.
+/// The answer, and what it changes.
 pub(crate) fn success(terms: Terms, arguments: &InitializeArguments) -> Answer
     ensures { (given : AGiven)
         → answering_as given.debuggee result ≡ spec.success given terms arguments.now }

@@ -29,7 +29,7 @@ pub(crate) fn demand() -> Demand
     Demand::nothing().taken_in(Phases::Initialized)
 }
 
-/// What comes of it, by the file that it names. `Err`: no memory was left.
+/// The answer, by the file that it names. `Err`: no memory was left.
 pub(crate) fn success(
     alloc: Global,
     lent: &Lent,
@@ -44,7 +44,7 @@ pub(crate) fn success(
     }
 }
 
-// What comes of a file that was read.
+// The answer, where the file was read.
 fn assembles(
     alloc: Global,
     lent: &Lent,
@@ -87,7 +87,7 @@ fn loads(
     })
 }
 
-/// A program of which this is the image, loaded. It stands still at its entry. It fails where no memory is left.
+/// The program with this image, loaded. It stands still at its entry. It fails where no memory is left.
 pub fn placed(
     alloc: Global,
     path: Text,

@@ -31,7 +31,7 @@ pub(crate) fn demand_on(thread: i32) -> Demand
     Demand::still(thread).taken_in(Phases::Active)
 }
 
-/// What comes of it, by the program. `Err`: no memory was left.
+/// The answer, by the program. `Err`: no memory was left.
 pub(crate) fn success(alloc: Global, lent: &Lent, command: &Command) -> Result<Answer, AllocError>
     requires { IsTrue (looks_in command.now) }
     ensures { IfOk result (λ a. answering_as lent.now.given.debuggee a
@@ -43,7 +43,7 @@ pub(crate) fn success(alloc: Global, lent: &Lent, command: &Command) -> Result<A
     }
 }
 
-// What is answered by the program that there is.
+// The answer, where there is a program.
 fn success_on(
     alloc: Global,
     lent: &Lent,

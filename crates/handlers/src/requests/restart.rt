@@ -18,7 +18,7 @@ pub(crate) fn demand() -> Demand
     Demand::alive().taken_in(Phases::Active)
 }
 
-/// What comes of it.
+/// The answer, and what it changes.
 pub(crate) fn success(terms: Terms) -> Answer
     ensures { (given : AGiven) → answering_as given.debuggee result ≡ spec.success given terms }
 {

@@ -16,7 +16,7 @@ pub(crate) fn demand(thread: i32) -> Demand
     going_back::demand(thread)
 }
 
-/// What comes of it. `NoHistory`: no move is recorded.
+/// The answer, and what it changes. `NoHistory`: no move is recorded.
 pub(crate) fn success(lent: &Lent) -> Answer
     ensures { answering_as lent.now.given.debuggee result
         ≡ spec.success lent.now.given lent.now.terms }

@@ -20,7 +20,7 @@ pub(crate) fn demand() -> Demand
     Demand::stopped().taken_in(Phases::Active)
 }
 
-/// What comes of it, by the program. `Err`: no memory was left.
+/// The answer, by the program. `Err`: no memory was left.
 pub(crate) fn success(
     alloc: Global,
     lent: &Lent,

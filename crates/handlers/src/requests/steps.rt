@@ -1,4 +1,4 @@
-//! `next`, `stepIn` and `stepOut`: the program goes on, with a goal.
+//! `next`, `stepIn` and `stepOut`: the program continues, with a goal.
 ghost use Rattle.std.specs.Prelude.{◌≡◌};
 ghost use Rattle.handlers.specs.Given.{Given as AGiven};
 ghost use Rattle.handlers.specs.Changes.{answering_as};
@@ -21,7 +21,7 @@ pub(crate) fn demand(thread: i32) -> Demand
     Demand::still(thread).taken_in(Phases::Active)
 }
 
-// What a step is; a statement is a line.
+// What a step is: a statement is a line.
 fn granularity_of(asked: Asked) -> Granularity
     ensures { result ≡ spec.granularity_of asked }
 {
@@ -31,7 +31,7 @@ fn granularity_of(asked: Asked) -> Granularity
     }
 }
 
-/// What comes of `next`.
+/// The answer to `next`.
 pub(crate) fn over(terms: Terms, asked: Asked) -> Answer
     ensures { (given : AGiven)
         → answering_as given.debuggee result
@@ -40,7 +40,7 @@ pub(crate) fn over(terms: Terms, asked: Asked) -> Answer
     goes_on(terms, Goal::Over(granularity_of(asked)))
 }
 
-/// What comes of `stepIn`.
+/// The answer to `stepIn`.
 pub(crate) fn into(terms: Terms, asked: Asked) -> Answer
     ensures { (given : AGiven)
         → answering_as given.debuggee result
@@ -49,7 +49,7 @@ pub(crate) fn into(terms: Terms, asked: Asked) -> Answer
     goes_on(terms, Goal::In(granularity_of(asked)))
 }
 
-/// What comes of `stepOut`.
+/// The answer to `stepOut`.
 pub(crate) fn out(terms: Terms, asked: Asked) -> Answer
     ensures { (given : AGiven)
         → answering_as given.debuggee result
@@ -58,7 +58,7 @@ pub(crate) fn out(terms: Terms, asked: Asked) -> Answer
     goes_on(terms, Goal::Out(granularity_of(asked)))
 }
 
-// The program goes on with a goal.
+// The program continues with a goal.
 fn goes_on(terms: Terms, goal: Goal) -> Answer
     ensures { (given : AGiven)
         → answering_as given.debuggee result ≡ spec.success given terms goal }

@@ -17,7 +17,7 @@ pub(crate) fn demand() -> Demand
     Demand::nothing().taken_in(Phases::Listening)
 }
 
-/// What comes of it.
+/// The answer, and what it changes.
 pub(crate) fn success(terms: Terms) -> Answer
     ensures { (given : AGiven) → answering_as given.debuggee result ≡ spec.success given terms }
 {

@@ -1,8 +1,6 @@
-use Rattle.std.proofs.Common.{sym, ap, subst, Err}
+use Rattle.answers.proofs.Common.{ap, Err, if_expression, Parses, subst, sym}
 use Rattle.expressions.specs.Nodes.{tree_of}
-use Rattle.expressions.specs.Texts.{Parses}
 use Rattle.expressions.specs.declared.error.ExprError.{ExprError}
-use Rattle.answers.specs.Conditions.{if_expression}
 use Rattle.answers.proofs.Reading.{expression_found, syntax, too_deep, too_long}
 use Rattle.answers.proofs.conditions.expression_of.Goals as goal
 

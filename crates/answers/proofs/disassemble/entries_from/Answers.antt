@@ -1,5 +1,4 @@
-use Rattle.std.proofs.Common.{◌≡◌, ℤ, pos, ◌+ℤ◌, ◌*ℤ◌, ◌*◌, arith, w64, to_z, of_z, ap, ◌∙◌}
-use Rattle.std.proofs.lemmas.Int.{ints}
+use Rattle.answers.proofs.Common.{ap, arith, ints, of_z, pos, to_z, w64, ℤ, ◌*ℤ◌, ◌*◌, ◌+ℤ◌, ◌∙◌, ◌≡◌}
 use Rattle.answers.specs.Disassemble as spec
 use Rattle.answers.proofs.Places.{all_made, one_more}
 use Rattle.answers.proofs.disassemble.entries_from.Goals as goal

@@ -1,5 +1,4 @@
-use Rattle.std.proofs.Common.{arith}
-use Rattle.std.proofs.lemmas.Int.{ints}
+use Rattle.answers.proofs.Common.{arith, ints}
 use Rattle.answers.proofs.disassemble.first_place.Goals as goal
 
 pub returns-clause-place : goal.returns-clause-place

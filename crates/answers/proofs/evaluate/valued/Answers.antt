@@ -1,6 +1,5 @@
-use Rattle.std.proofs.Common.{sym, ap, subst, Err, ◌∙◌}
+use Rattle.answers.proofs.Common.{ap, Err, Parses, subst, sym, ◌∙◌}
 use Rattle.expressions.specs.Nodes.{tree_of}
-use Rattle.expressions.specs.Texts.{Parses}
 use Rattle.expressions.specs.declared.error.ExprError.{ExprError}
 use Rattle.answers.specs.Evaluate.{valued}
 use Rattle.answers.proofs.Reading.{expression_found, syntax, too_deep, too_long}

@@ -1,5 +1,4 @@
-use Rattle.std.proofs.Common.{rules, arith, ◌≡◌, ◌+◌, ◌<◌, ◌^◌, Some, sym, ap, ◌∙◌}
-use Rattle.image.specs.Memory.{byte_at}
+use Rattle.answers.proofs.Common.{ap, arith, byte_at, rules, Some, sym, ◌+◌, ◌<◌, ◌^◌, ◌∙◌, ◌≡◌}
 use Rattle.answers.proofs.MemoryBytes.{one_more}
 use Rattle.answers.proofs.read_memory.bytes_from.Goals as goal
 

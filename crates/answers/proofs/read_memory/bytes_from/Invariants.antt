@@ -1,5 +1,4 @@
-use Rattle.std.proofs.Common.{◌≡◌, ◌≤◌, ◌-◌}
-use Rattle.image.specs.Memory.{bytes_at}
+use Rattle.answers.proofs.Common.{bytes_at, ◌-◌, ◌≡◌, ◌≤◌}
 use Rattle.answers.proofs.read_memory.bytes_from.Given as goal
 
 abbrev pub invariant-loop-index : goal.invariant-loop-index

@@ -1,7 +1,5 @@
-use Rattle.std.proofs.Common.{◌≡◌, ◌+◌, ◌≤◌, ◌++◌, drop}
-use Rattle.answers.specs.Breakpoints.{entries_of, list_of}
+use Rattle.answers.proofs.Common.{drop, entries_of, list_in, list_of, ◌++◌, ◌+◌, ◌≡◌, ◌≤◌}
 use Rattle.answers.specs.SetBreakpoints as spec
-use Rattle.answers.specs.Steps.{list_in}
 use Rattle.answers.proofs.set_breakpoints.entries_of.Given as goal
 
 abbrev pub invariant-loop-breakpoint : goal.invariant-loop-breakpoint

@@ -1,6 +1,6 @@
 use Rattle.answers.specs.SetFunctionBreakpoints as spec
 use Rattle.answers.specs.SetInstructionBreakpoints.{entry, wanted}
-use Rattle.answers.specs.Steps.{list_in}
+use Rattle.answers.specs.Private.Steps.{list_in}
 use Rattle.answers.proofs.Lists.{entries_on, list_on, next_small}
 use Rattle.answers.proofs.set_function_breakpoints.entries_of.Goals as goal
 

@@ -1,8 +1,6 @@
-use Rattle.std.proofs.Common.{◌≡◌, ◌+◌, ◌≤◌, ◌++◌, drop}
-use Rattle.answers.specs.Breakpoints.{entries_of, list_of}
+use Rattle.answers.proofs.Common.{drop, entries_of, list_in, list_of, ◌++◌, ◌+◌, ◌≡◌, ◌≤◌}
 use Rattle.answers.specs.SetFunctionBreakpoints as spec
 use Rattle.answers.specs.SetInstructionBreakpoints.{entry, wanted}
-use Rattle.answers.specs.Steps.{list_in}
 use Rattle.answers.proofs.set_function_breakpoints.entries_of.Given as goal
 
 abbrev pub invariant-loop-breakpoint : goal.invariant-loop-breakpoint

@@ -1,5 +1,5 @@
 use Rattle.answers.specs.SetInstructionBreakpoints as spec
-use Rattle.answers.specs.Steps.{list_in}
+use Rattle.answers.specs.Private.Steps.{list_in}
 use Rattle.answers.proofs.Lists.{entries_on, list_on, next_small}
 use Rattle.answers.proofs.set_instruction_breakpoints.entries_of.Goals as goal
 

@@ -1,5 +1,4 @@
-use Rattle.std.proofs.Common.{ℕ, List, ap, ◌∙◌}
-use Rattle.variables.specs.Registers.{name_answer, registers_after, set_answer}
+use Rattle.answers.proofs.Common.{ap, List, name_answer, registers_after, set_answer, ℕ, ◌∙◌}
 use Rattle.variables.specs.Values.{value_of}
 use Rattle.answers.proofs.Setting.{refused, set}
 use Rattle.answers.proofs.set_variable.in_registers.Goals as goal

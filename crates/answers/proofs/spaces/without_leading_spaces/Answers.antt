@@ -1,5 +1,4 @@
-use Rattle.std.proofs.Common.{◌≡◌, ◌≢◌, ℕ, List, ◌∷◌, Option, MatchOption, sym, ◌∙◌, subst, arith, Bor}
-use Rattle.std.proofs.lemmas.Str.Pattern.{strip_prefix_char}
+use Rattle.answers.proofs.Common.{arith, Bor, List, MatchOption, Option, strip_prefix_char, subst, sym, ℕ, ◌∙◌, ◌∷◌, ◌≡◌, ◌≢◌}
 use Rattle.answers.proofs.Trimming.{none_leads}
 use Rattle.answers.proofs.spaces.without_leading_spaces.Goals as goal
 

@@ -1,7 +1,6 @@
-use Rattle.std.proofs.Common.{◌≡◌, length}
+use Rattle.answers.proofs.Common.{length, without_leading_spaces, ◌≡◌}
 use denote.Text.{Utf8}
 use denote.Shadow.{shadow}
-use Rattle.answers.specs.Spaces.{without_leading_spaces}
 use Rattle.answers.proofs.spaces.without_leading_spaces.Given as goal
 
 abbrev pub invariant-loop-rest : goal.invariant-loop-rest

@@ -1,5 +1,4 @@
-use Rattle.std.proofs.Common.{◌≡◌, ◌≢◌, ℕ, List, [], ◌∷◌, ◌++◌, Option, MatchOption, sym, ◌∙◌, subst, arith, Bor}
-use Rattle.std.proofs.lemmas.Str.Pattern.{strip_suffix_char}
+use Rattle.answers.proofs.Common.{[], arith, Bor, List, MatchOption, Option, strip_suffix_char, subst, sym, ℕ, ◌++◌, ◌∙◌, ◌∷◌, ◌≡◌, ◌≢◌}
 use Rattle.answers.proofs.Trimming.{none_trails}
 use Rattle.answers.proofs.spaces.without_trailing_spaces.Goals as goal
 

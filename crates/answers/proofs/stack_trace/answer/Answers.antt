@@ -1,8 +1,4 @@
-use Rattle.std.proofs.Common.{◌≡◌, ◌+◌, ◌-◌, ◌∙◌, List, length, map, Some, ap, arith}
-use Rattle.variables.specs.Numbers.{number_in, with_targets}
-use Rattle.variables.specs.declared.target.Target.{Target}
-use Rattle.answers.specs.StackTrace.{addresses}
-use Rattle.answers.specs.Steps.{frames_from}
+use Rattle.answers.proofs.Common.{addresses, ap, arith, frames_from, length, List, map, number_in, Some, Target, with_targets, ◌+◌, ◌-◌, ◌∙◌, ◌≡◌}
 use Rattle.answers.proofs.Frames.{many_numbers, many_targets, shown}
 use Rattle.answers.proofs.stack_trace.answer.Goals as goal
 

@@ -1,6 +1,4 @@
-use Rattle.std.proofs.Common.{◌≡◌, ◌+◌, ◌++◌, drop}
-use Rattle.answers.specs.StackTrace.{addresses}
-use Rattle.answers.specs.Steps.{frames_from}
+use Rattle.answers.proofs.Common.{addresses, drop, frames_from, ◌++◌, ◌+◌, ◌≡◌}
 use Rattle.answers.proofs.stack_trace.frames.Given as goal
 
 abbrev pub invariant-loop-offset : goal.invariant-loop-offset

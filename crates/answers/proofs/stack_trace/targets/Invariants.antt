@@ -1,6 +1,4 @@
-use Rattle.std.proofs.Common.{◌≡◌, ◌-◌, map}
-use Rattle.std.specs.List.{range_with_len}
-use Rattle.variables.specs.declared.target.Target.TheVariants.{Frame}
+use Rattle.answers.proofs.Common.{Frame, map, range_with_len, ◌-◌, ◌≡◌}
 use Rattle.answers.proofs.stack_trace.targets.Given as goal
 
 abbrev pub invariant-loop-index : goal.invariant-loop-index

@@ -1,5 +1,4 @@
-use Rattle.std.proofs.Common.{◌≤◌, ◌-◌, drop, length}
-use Rattle.image.specs.Memory.{first_address}
+use Rattle.answers.proofs.Common.{drop, first_address, length, ◌-◌, ◌≤◌}
 use Rattle.answers.proofs.write_memory.fitting.Given as goal
 
 abbrev pub invariant-loop-index : goal.invariant-loop-index

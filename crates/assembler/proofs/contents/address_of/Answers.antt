@@ -1,7 +1,4 @@
-use Rattle.std.proofs.Common.{ap, ◌∙◌}
-use Rattle.image.specs.Lines.{labels_of}
-use Rattle.statements.specs.Spelling.{named}
-use Rattle.assembler.specs.Contents.{defined}
+use Rattle.assembler.proofs.Common.{ap, defined, labels_of, named, ◌∙◌}
 use Rattle.assembler.proofs.Labelled.{looked_up}
 use Rattle.assembler.proofs.contents.address_of.Goals as goal
 

@@ -1,6 +1,4 @@
-use Rattle.std.proofs.Common.{◌≡◌, drop}
-use Rattle.image.specs.Lines.{labels_of}
-use Rattle.assembler.specs.Contents.{items_bytes, with_more}
+use Rattle.assembler.proofs.Common.{drop, items_bytes, labels_of, with_more, ◌≡◌}
 use Rattle.assembler.proofs.contents.put_items.Given as goal
 
 abbrev pub invariant-loop-item : goal.invariant-loop-item

@@ -1,9 +1,4 @@
-use Rattle.std.proofs.Common.{◌≡◌, Some, None, sym, subst, ◌∙◌}
-use Rattle.image.specs.Lines.{labels_of}
-use Rattle.image.specs.Memory.{first_address}
-use Rattle.assembler.specs.Contents.{content_error}
-use Rattle.assembler.specs.Errors.{Reports}
-use Rattle.assembler.specs.Places.{end_of_line, places}
+use Rattle.assembler.proofs.Common.{content_error, end_of_line, first_address, labels_of, None, places, Reports, Some, subst, sym, ◌∙◌, ◌≡◌}
 use Rattle.assembler.proofs.Filling.{filled_all, filled_at, filled_more, filled_within, filled_wrong}
 use Rattle.assembler.proofs.Padded.{below, up_to_is}
 use Rattle.assembler.proofs.fill.fill.Goals as goal

@@ -1,6 +1,4 @@
-use Rattle.std.proofs.Common.{◌≡◌, ◌++◌, drop, map}
-use Rattle.image.specs.Lines.{labels_of}
-use Rattle.assembler.specs.Places.{defines_twice}
+use Rattle.assembler.proofs.Common.{defines_twice, drop, labels_of, map, ◌++◌, ◌≡◌}
 use Rattle.assembler.proofs.layout.add_labels.Given as goal
 
 abbrev pub invariant-loop-name : goal.invariant-loop-name

@@ -1,7 +1,4 @@
-use Rattle.std.proofs.Common.{◌≡◌, drop}
-use Rattle.std.specs.List.{list_any}
-use Rattle.std.specs.Str.{bytes_eq}
-use Rattle.assembler.specs.Places.{start}
+use Rattle.assembler.proofs.Common.{bytes_eq, drop, list_any, start, ◌≡◌}
 use Rattle.assembler.proofs.layout.has_start.Given as goal
 
 abbrev pub invariant-loop-name : goal.invariant-loop-name

@@ -1,8 +1,6 @@
-use Rattle.std.proofs.Common.{◌≡◌, length, arith, ◌∙◌}
-use Rattle.std.proofs.lemmas.List.{length_push}
+use Rattle.assembler.proofs.Common.{arith, length, length_push, lines, ◌∙◌, ◌≡◌}
 use Rattle.std.proofs.lemmas.Iterator.Splits.{YieldsList-from_lines}
 use Rattle.std.proofs.lemmas.Iterator.Consumers.{YieldsList-turn, YieldsList-end}
-use Rattle.std.specs.Str.Lines.{lines}
 use Rattle.assembler.proofs.Reading.{line_more, line_wrong, lines_all}
 use Rattle.assembler.proofs.program.read_lines.Goals as goal
 

@@ -1,7 +1,4 @@
-use Rattle.std.proofs.Common.{◌≡◌, ◌+◌, length, drop}
-use Rattle.std.specs.Str.Lines.{lines}
-use Rattle.assembler.specs.Program.{read_lines}
-use Rattle.assembler.specs.Steps.{after}
+use Rattle.assembler.proofs.Common.{after, drop, length, lines, read_lines, ◌+◌, ◌≡◌}
 use Rattle.assembler.proofs.program.read_lines.Given as goal
 
 abbrev pub invariant-loop-line : goal.invariant-loop-line

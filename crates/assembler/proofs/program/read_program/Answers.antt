@@ -1,6 +1,4 @@
-use Rattle.std.proofs.Common.{◌≡◌, ◌≤◌, length, refl, ap, ◌∙◌, arith}
-use Rattle.std.specs.Str.Lines.{lines}
-use Rattle.assembler.specs.Program.{line_at, read_lines, read_text, whole_error}
+use Rattle.assembler.proofs.Common.{ap, arith, length, line_at, lines, read_lines, read_text, refl, whole_error, ◌∙◌, ◌≡◌, ◌≤◌}
 use Rattle.assembler.proofs.Reading.{a_text, no_text, too_long, whole_first, whole_none, whole_reported}
 use Rattle.assembler.proofs.program.read_program.Goals as goal
 

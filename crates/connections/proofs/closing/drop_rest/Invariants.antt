@@ -1,4 +1,4 @@
--- Before each look so many pieces were dropped, and there were not more of them, nor of the waits, than there may be.
+-- Before each look the pieces that were counted are dropped, and neither they nor the waits are above their limits.
 use Rattle.std.proofs.Common.{◌≡◌, ◌+◌, ◌*◌, ◌-◌, ◌≤◌, length}
 use Rattle.connections.specs.Lingering.{most_pieces, most_waits, Dropped}
 use Rattle.connections.proofs.closing.drop_rest.Given as goal

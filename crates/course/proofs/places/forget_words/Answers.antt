@@ -1,6 +1,4 @@
-use Rattle.std.proofs.Common.{◌≡◌, ◌∙◌, ℕ, ◌+◌, ◌*◌, ◌/◌, ◌%◌, List, sym, subst, arith}
-use Rattle.course.specs.Words.{AreKnown, forgotten}
-use Rattle.course.specs.declared.entry.Entry.{Entry}
+use Rattle.course.proofs.Common.{AreKnown, arith, Entry, forgotten, List, subst, sym, ℕ, ◌%◌, ◌*◌, ◌+◌, ◌/◌, ◌∙◌, ◌≡◌}
 use Rattle.course.proofs.Remembering.{known_forgotten}
 use Rattle.course.proofs.places.forget_words.Goals as goal
 

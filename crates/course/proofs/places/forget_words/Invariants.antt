@@ -1,6 +1,4 @@
-use Rattle.std.proofs.Common.{◌≡◌, ℕ, ◌+◌, ◌*◌, ◌/◌, List}
-use Rattle.std.specs.Prelude.{vec_capacity}
-use Rattle.course.specs.Words.{AreKnown}
+use Rattle.course.proofs.Common.{AreKnown, List, vec_capacity, ℕ, ◌*◌, ◌+◌, ◌/◌, ◌≡◌}
 use Rattle.course.proofs.places.forget_words.Given as goal
 
 abbrev pub invariant-loop-k : goal.invariant-loop-k

@@ -1,6 +1,4 @@
-use Rattle.std.proofs.Common.{◌≡◌, length}
-use Rattle.std.specs.Prelude.{vec_capacity}
-use Rattle.course.specs.Words.{Makes}
+use Rattle.course.proofs.Common.{length, Makes, vec_capacity, ◌≡◌}
 use Rattle.course.proofs.places.make.Given as goal
 
 abbrev pub invariant-loop-k : goal.invariant-loop-k

@@ -1,6 +1,4 @@
-use Rattle.std.proofs.Common.{◌∙◌, ◌++◌, ap, List}
-use Rattle.circular_buffer.specs.Buffer.{buffer, keep_last}
-use Rattle.course.specs.declared.moves.Move.{Move}
+use Rattle.course.proofs.Common.{ap, buffer, keep_last, List, Move, ◌++◌, ◌∙◌}
 use Rattle.course.proofs.Logging.{handed_on}
 use Rattle.course.proofs.undo_log.hand_on.Goals as goal
 

@@ -1,7 +1,4 @@
-use Rattle.std.proofs.Common.{◌≡◌, ◌++◌, drop, string_bytes}
-use Rattle.std.specs.List.{flat_map}
-use Rattle.diagnostics.specs.Diagnoses.{told}
-use Rattle.diagnostics.specs.Findings.{findings_of}
+use Rattle.diagnostics.proofs.Common.{drop, findings_of, flat_map, string_bytes, told, ◌++◌, ◌≡◌}
 use Rattle.diagnostics.proofs.diagnosing.all_lines.Given as goal
 
 abbrev pub invariant-loop-told : goal.invariant-loop-told

@@ -1,8 +1,4 @@
-use Rattle.std.proofs.Common.{ap, ◌∙◌}
-use Rattle.std.proofs.lemmas.List.Elements.{All-map}
-use Rattle.diagnostics.specs.Diagnoses.{HasColumn}
-use Rattle.diagnostics.specs.Diagnoses.{diagnosis}
-use Rattle.diagnostics.specs.Findings.{finding_of, findings_of}
+use Rattle.diagnostics.proofs.Common.{All-map, ap, diagnosis, finding_of, findings_of, HasColumn, ◌∙◌}
 use Rattle.diagnostics.proofs.diagnosing.diagnose.Goals as goal
 
 pub returns : goal.returns

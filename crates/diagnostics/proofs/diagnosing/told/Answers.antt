@@ -1,6 +1,4 @@
-use Rattle.std.proofs.Common.{ap, ◌∙◌, ◌++◌}
-use Rattle.diagnostics.specs.Diagnoses.{told}
-use Rattle.diagnostics.specs.Findings.{finding_of}
+use Rattle.diagnostics.proofs.Common.{ap, finding_of, told, ◌++◌, ◌∙◌}
 use Rattle.diagnostics.proofs.diagnosing.told.Goals as goal
 
 pub returns : goal.returns

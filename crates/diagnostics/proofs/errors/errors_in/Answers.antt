@@ -1,5 +1,4 @@
-use Rattle.std.proofs.Common.{Err, refl}
-use Rattle.assembler.specs.Program.{whole_error}
+use Rattle.diagnostics.proofs.Common.{Err, refl, whole_error}
 use Rattle.diagnostics.proofs.Located.{whole_is}
 use Rattle.diagnostics.proofs.errors.errors_in.Goals as goal
 

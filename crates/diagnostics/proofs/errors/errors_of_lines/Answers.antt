@@ -1,8 +1,4 @@
-use Rattle.std.proofs.Common.{◌≡◌, map, ap, subst, ◌∙◌}
-use Rattle.std.specs.Prelude.{IfOk}
-use Rattle.std.specs.Str.Lines.{lines}
-use Rattle.diagnostics.specs.Errors.{line_errors, located_among}
-use Rattle.diagnostics.specs.Findings.{errors_found, located_in}
+use Rattle.diagnostics.proofs.Common.{ap, errors_found, IfOk, line_errors, lines, located_among, located_in, map, subst, ◌∙◌, ◌≡◌}
 use Rattle.diagnostics.proofs.errors.errors_of_lines.Goals as goal
 
 pub returns-clause-errors : goal.returns-clause-errors

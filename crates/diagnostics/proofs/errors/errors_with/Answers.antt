@@ -1,9 +1,5 @@
-use Rattle.std.proofs.Common.{◌≡◌, ◌≤◌, length, refl, ap, subst, ◌∙◌, arith}
-use Rattle.std.specs.Prelude.{IfOk}
-use Rattle.std.specs.Str.Lines.{lines}
+use Rattle.diagnostics.proofs.Common.{ap, arith, IfOk, length, line_errors, lines, located_among, located_in, refl, subst, ◌∙◌, ◌≡◌, ◌≤◌}
 use Rattle.assembler.proofs.Reading.{no_text, too_long}
-use Rattle.diagnostics.specs.Errors.{line_errors, located_among}
-use Rattle.diagnostics.specs.Findings.{located_in}
 use Rattle.diagnostics.proofs.Located.{lines_told, whole_told}
 use Rattle.diagnostics.proofs.errors.errors_with.Goals as goal
 

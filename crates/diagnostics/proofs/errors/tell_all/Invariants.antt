@@ -1,6 +1,4 @@
-use Rattle.std.proofs.Common.{◌≡◌, ◌++◌, drop, map}
-use Rattle.diagnostics.specs.Errors.{located_among}
-use Rattle.diagnostics.specs.Findings.{errors_found, HaveColumns, located_in}
+use Rattle.diagnostics.proofs.Common.{drop, errors_found, HaveColumns, located_among, located_in, map, ◌++◌, ◌≡◌}
 use Rattle.diagnostics.proofs.errors.tell_all.Given as goal
 
 abbrev pub invariant-loop-one : goal.invariant-loop-one

@@ -1,6 +1,4 @@
-use Rattle.std.proofs.Common.{◌≡◌, ◌++◌, drop, string_bytes}
-use Rattle.std.specs.List.{flat_map}
-use Rattle.diagnostics.specs.Findings.{findings_of}
+use Rattle.diagnostics.proofs.Common.{drop, findings_of, flat_map, string_bytes, ◌++◌, ◌≡◌}
 use Rattle.diagnostics.specs.Json.{told_json}
 use Rattle.diagnostics.proofs.json.all_lines.Given as goal
 

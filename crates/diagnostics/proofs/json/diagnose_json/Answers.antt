@@ -1,8 +1,5 @@
-use Rattle.std.proofs.Common.{ap, ◌∙◌}
-use Rattle.std.proofs.lemmas.List.Elements.{All-map}
-use Rattle.diagnostics.specs.Diagnoses.{HasColumn}
+use Rattle.diagnostics.proofs.Common.{All-map, ap, finding_of, findings_of, HasColumn, ◌∙◌}
 use Rattle.diagnostics.specs.Json.{diagnosis_json}
-use Rattle.diagnostics.specs.Findings.{finding_of, findings_of}
 use Rattle.diagnostics.proofs.json.diagnose_json.Goals as goal
 
 pub returns : goal.returns

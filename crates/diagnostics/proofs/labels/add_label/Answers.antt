@@ -1,5 +1,4 @@
-use Rattle.std.proofs.Common.{sym, ◌∙◌}
-use Rattle.assembler.proofs.Labelled.{added}
+use Rattle.diagnostics.proofs.Common.{added, sym, ◌∙◌}
 use Rattle.diagnostics.proofs.labels.add_label.Goals as goal
 
 pub returns-clause-labels : goal.returns-clause-labels

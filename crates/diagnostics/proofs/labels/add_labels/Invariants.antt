@@ -1,8 +1,4 @@
-use Rattle.std.proofs.Common.{◌≡◌, drop}
-use Rattle.std.specs.Prelude.{◌||◌}
-use Rattle.image.specs.Lines.{labels_of}
-use Rattle.assembler.specs.Places.{defines_twice}
-use Rattle.diagnostics.specs.Errors.{with_labels}
+use Rattle.diagnostics.proofs.Common.{defines_twice, drop, labels_of, with_labels, ◌||◌, ◌≡◌}
 use Rattle.diagnostics.proofs.labels.add_labels.Given as goal
 
 abbrev pub invariant-loop-name : goal.invariant-loop-name

@@ -1,6 +1,5 @@
-use Rattle.std.proofs.Common.{ap, ◌∙◌}
+use Rattle.diagnostics.proofs.Common.{ap, looked_up, ◌∙◌}
 use Rattle.std.specs.Option.{is_some}
-use Rattle.assembler.proofs.Labelled.{looked_up}
 use Rattle.diagnostics.proofs.labels.is_defined.Goals as goal
 
 pub returns : goal.returns

@@ -1,7 +1,6 @@
-use Rattle.std.proofs.Common.{length}
+use Rattle.diagnostics.proofs.Common.{length, lines}
 use Rattle.std.proofs.lemmas.Iterator.Splits.{YieldsList-from_lines}
 use Rattle.std.proofs.lemmas.Iterator.Consumers.{YieldsList-turn, YieldsList-end}
-use Rattle.std.specs.Str.Lines.{lines}
 use Rattle.diagnostics.proofs.Lines.{here, nowhere}
 use Rattle.diagnostics.proofs.line_numbers.line_after.Goals as goal
 

@@ -1,5 +1,4 @@
-use Rattle.std.proofs.Common.{◌-◌, length, map, refl, sym, ap, ◌∙◌}
-use Rattle.std.specs.Prelude.{option_map}
+use Rattle.diagnostics.proofs.Common.{ap, length, map, option_map, refl, sym, ◌-◌, ◌∙◌}
 use Rattle.std.proofs.lemmas.Option.{slice_get-map, slice_get_past, slice_get_read}
 use Rattle.diagnostics.proofs.Lines.{numbered_at}
 use Rattle.diagnostics.proofs.line_numbers.numbered.Goals as goal

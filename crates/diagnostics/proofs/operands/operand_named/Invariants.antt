@@ -1,5 +1,4 @@
-use Rattle.std.specs.Option.{option_copied}
-use Rattle.statements.proofs.Fields.{left}
+use Rattle.diagnostics.proofs.Common.{left, option_copied}
 use Rattle.diagnostics.proofs.operands.operand_named.Given as goal
 
 abbrev pub decreases-fields : goal.decreases-fields

@@ -1,5 +1,4 @@
-use Rattle.std.proofs.Common.{sym}
-use Rattle.statements.proofs.Fields.{fields_none, fields_some}
+use Rattle.diagnostics.proofs.Common.{fields_none, fields_some, sym}
 use Rattle.diagnostics.proofs.parts.first_field.Goals as goal
 
 pub returns-in-Some-clause-fields : goal.returns-in-Some-clause-fields

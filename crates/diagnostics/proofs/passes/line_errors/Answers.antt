@@ -1,8 +1,4 @@
-use Rattle.std.proofs.Common.{◌≡◌, Some, None, map, ap, subst, ◌∙◌}
-use Rattle.std.specs.Prelude.{IfOk}
-use Rattle.assembler.specs.Program.{read_lines}
-use Rattle.diagnostics.specs.Errors.{errors_read, program_errors, value_in}
-use Rattle.diagnostics.specs.Findings.{errors_found, program_of}
+use Rattle.diagnostics.proofs.Common.{ap, errors_found, errors_read, IfOk, map, None, program_errors, program_of, read_lines, Some, subst, value_in, ◌∙◌, ◌≡◌}
 use Rattle.diagnostics.proofs.Finding.{read_so}
 use Rattle.diagnostics.proofs.passes.line_errors.Goals as goal
 

@@ -1,8 +1,4 @@
-use Rattle.std.proofs.Common.{◌≡◌, List, [], ◌∷◌, length, refl, sym, subst, ◌∙◌, arith, vec_len}
-use Rattle.std.specs.Prelude.{IfOk}
-use Rattle.std.proofs.lemmas.Bool.{eqb-true}
-use Rattle.image.specs.Lines.{labels_of}
-use Rattle.diagnostics.specs.Findings.{errors_found, program_of}
+use Rattle.diagnostics.proofs.Common.{[], arith, eqb-true, errors_found, IfOk, labels_of, length, List, program_of, refl, subst, sym, vec_len, ◌∙◌, ◌∷◌, ◌≡◌}
 use Rattle.diagnostics.specs.declared.found.Found.{Found}
 use Rattle.diagnostics.proofs.Finding.{next_pass}
 use Rattle.diagnostics.proofs.passes.program_errors.Goals as goal

@@ -1,9 +1,4 @@
-use Rattle.std.proofs.Common.{ap, ◌∙◌}
-use Rattle.std.specs.Option.{unwrap_or}
-use Rattle.image.specs.Lines.{labels_of}
-use Rattle.assembler.specs.Places.{defines_twice}
-use Rattle.diagnostics.specs.Findings.{source_of}
-use Rattle.diagnostics.specs.Steps.{misplaced_so}
+use Rattle.diagnostics.proofs.Common.{ap, defines_twice, labels_of, misplaced_so, source_of, unwrap_or, ◌∙◌}
 use Rattle.diagnostics.proofs.Finding.{misplaced_same}
 use Rattle.diagnostics.proofs.placing.place.Goals as goal
 

@@ -1,9 +1,4 @@
-use Rattle.std.proofs.Common.{◌≡◌, ◌++◌, [], Some, drop}
-use Rattle.image.specs.Lines.{labels_of}
-use Rattle.image.specs.Memory.{first_address}
-use Rattle.diagnostics.specs.Errors.{place_errors}
-use Rattle.diagnostics.specs.Findings.{errors_found, program_of}
-use Rattle.diagnostics.specs.Steps.{labels_after, LiesWithin}
+use Rattle.diagnostics.proofs.Common.{[], drop, errors_found, first_address, labels_after, labels_of, LiesWithin, place_errors, program_of, Some, ◌++◌, ◌≡◌}
 use Rattle.diagnostics.proofs.placing.place_all.Given as goal
 
 abbrev pub invariant-loop-source : goal.invariant-loop-source

@@ -1,6 +1,4 @@
-use Rattle.std.proofs.Common.{◌≡◌, ◌+◌, ◌++◌, drop, map}
-use Rattle.diagnostics.specs.Findings.{program_of}
-use Rattle.diagnostics.specs.Steps.{all_read, said_lines}
+use Rattle.diagnostics.proofs.Common.{all_read, drop, map, program_of, said_lines, ◌++◌, ◌+◌, ◌≡◌}
 use Rattle.diagnostics.proofs.reading.read_program.Given as goal
 
 abbrev pub invariant-loop-text : goal.invariant-loop-text

@@ -1,6 +1,4 @@
-use Rattle.std.proofs.Common.{◌≡◌, ◌+◌, ◌++◌, drop, map}
-use Rattle.diagnostics.specs.Errors.{reading_errors}
-use Rattle.diagnostics.specs.Findings.{errors_found}
+use Rattle.diagnostics.proofs.Common.{drop, errors_found, map, reading_errors, ◌++◌, ◌+◌, ◌≡◌}
 use Rattle.diagnostics.proofs.reading.unreadable.Given as goal
 
 abbrev pub invariant-loop-text : goal.invariant-loop-text

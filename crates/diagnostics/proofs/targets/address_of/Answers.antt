@@ -1,8 +1,4 @@
-use Rattle.std.proofs.Common.{ap, ◌∙◌}
-use Rattle.image.specs.Lines.{labels_of}
-use Rattle.statements.specs.Spelling.{named}
-use Rattle.assembler.specs.Contents.{defined}
-use Rattle.assembler.proofs.Labelled.{looked_up}
+use Rattle.diagnostics.proofs.Common.{ap, defined, labels_of, looked_up, named, ◌∙◌}
 use Rattle.diagnostics.proofs.targets.address_of.Goals as goal
 
 pub returns-in-Some : goal.returns-in-Some

@@ -1,8 +1,4 @@
-use Rattle.std.proofs.Common.{◌≡◌, ◌++◌, Some, drop}
-use Rattle.image.specs.Lines.{labels_of}
-use Rattle.image.specs.Memory.{first_address}
-use Rattle.diagnostics.specs.Findings.{errors_found, program_of}
-use Rattle.diagnostics.specs.Steps.{content_steps, LiesWithin}
+use Rattle.diagnostics.proofs.Common.{content_steps, drop, errors_found, first_address, labels_of, LiesWithin, program_of, Some, ◌++◌, ◌≡◌}
 use Rattle.diagnostics.proofs.targets.check_targets.Given as goal
 
 abbrev pub invariant-loop-source : goal.invariant-loop-source

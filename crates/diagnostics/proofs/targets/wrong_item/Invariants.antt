@@ -1,6 +1,4 @@
-use Rattle.std.proofs.Common.{◌≡◌, drop}
-use Rattle.image.specs.Lines.{labels_of}
-use Rattle.diagnostics.specs.Steps.{wrong_items}
+use Rattle.diagnostics.proofs.Common.{drop, labels_of, wrong_items, ◌≡◌}
 use Rattle.diagnostics.proofs.targets.wrong_item.Given as goal
 
 abbrev pub invariant-loop-item : goal.invariant-loop-item

@@ -1,5 +1,4 @@
-use Rattle.std.proofs.Common.{◌≡◌, ◌*◌, ◌+◌, ◌-◌, get_or, take, arith, ◌∙◌, ap}
-use Rattle.std.specs.Str.Parse.{digits_value}
+use Rattle.framing.proofs.Common.{ap, arith, digits_value, get_or, take, ◌*◌, ◌+◌, ◌-◌, ◌∙◌, ◌≡◌}
 use Rattle.framing.proofs.Digits.{value_small, value_step, digit_at}
 use Rattle.framing.proofs.field.digits_value.Goals as goal
 

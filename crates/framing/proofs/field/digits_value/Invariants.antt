@@ -1,5 +1,4 @@
-use Rattle.std.proofs.Common.{◌≡◌, take}
-use Rattle.std.specs.Str.Parse.{digits_value}
+use Rattle.framing.proofs.Common.{digits_value, take, ◌≡◌}
 use Rattle.framing.proofs.field.digits_value.Given as goal
 
 abbrev pub invariant-loop-digit : goal.invariant-loop-digit

@@ -1,7 +1,4 @@
-use Rattle.std.proofs.Common.{◌≡◌}
-use Rattle.std.specs.Option.{option_copied}
-use Rattle.framing.specs.Reading.{content_length}
-use Rattle.framing.specs.Lines.{lines_after}
+use Rattle.framing.proofs.Common.{content_length, lines_after, option_copied, ◌≡◌}
 use Rattle.framing.proofs.LineLemmas.{length_of, size_left}
 use Rattle.framing.proofs.header.content_length.Given as goal
 

@@ -1,4 +1,4 @@
-use Rattle.framing.specs.Lines.{EndsPast}
+use Rattle.framing.specs.Private.Lines.{EndsPast}
 use Rattle.framing.proofs.header.header_size.Given as goal
 
 abbrev pub invariant-loop-i : goal.invariant-loop-i

@@ -1,6 +1,4 @@
-use Rattle.std.proofs.Common.{◌≡◌, ◌-◌, ◌+◌, ◌∷◌, ◌∙◌, take, drop, ap, sym, arith}
-use Rattle.std.proofs.lemmas.List.{take_rest}
-use Rattle.framing.specs.Reading.{lines_of}
+use Rattle.framing.proofs.Common.{ap, arith, drop, lines_of, sym, take, take_rest, ◌+◌, ◌-◌, ◌∙◌, ◌∷◌, ◌≡◌}
 use Rattle.framing.proofs.LineLemmas.{onto_line, onto_none, line_more, line_here, line_all}
 use Rattle.framing.proofs.header.split_line.Goals as goal
 use Rattle.framing.proofs.header.split_line.Goals.{else-lines-i-eq-CR-via-then-lines-i-eq-CR+else-lines-i-eq-LF, else-lines-i-eq-CR-via-else-lines-i-eq-CR}

@@ -1,5 +1,4 @@
-use Rattle.std.proofs.Common.{◌≡◌, ◌-◌, take, drop}
-use Rattle.framing.specs.Reading.{lines_of}
+use Rattle.framing.proofs.Common.{drop, lines_of, take, ◌-◌, ◌≡◌}
 use Rattle.framing.proofs.LineLemmas.{onto_line}
 use Rattle.framing.proofs.header.split_line.Given as goal
 

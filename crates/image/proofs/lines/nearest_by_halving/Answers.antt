@@ -1,7 +1,5 @@
-use Rattle.std.proofs.Common.{rules, of_calls, ◌≡◌, true, false}
-use Rattle.std.specs.Prelude.{nat_le, nat_lt}
+use Rattle.image.proofs.Common.{always_returns_same, false, nat_le, nat_lt, of_calls, rules, true, ◌≡◌}
 use Rattle.std.specs.List.Sorted.{IsPartitionPoint}
-use Rattle.std.proofs.lemmas.Fn.{always_returns_same}
 use Rattle.image.proofs.Nearest.{le_tested, lt_tested, halved_to, halved_in_vain}
 use Rattle.image.proofs.lines.nearest_by_halving.Goals as goal
 use Rattle.image.proofs.lines.nearest_by_halving.Goals.{After-partition_point-count, After-partition_point-index}

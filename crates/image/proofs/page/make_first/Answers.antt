@@ -1,4 +1,4 @@
-use Rattle.image.specs.Pages.{zeros}
+use Rattle.image.specs.Private.Pages.{zeros}
 use Rattle.image.proofs.page.make_first.Goals as goal
 
 pub returns-clause-ok : goal.returns-clause-ok

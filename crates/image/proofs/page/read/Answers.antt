@@ -1,6 +1,4 @@
-use Rattle.std.proofs.Common.{◌≡◌, length, take, drop, sym, ap, ◌∙◌, rules}
-use Rattle.std.proofs.lemmas.List.{nil_from_length}
-use Rattle.image.specs.Pages.{page_bytes}
+use Rattle.image.proofs.Common.{ap, drop, length, nil_from_length, page_bytes, rules, sym, take, ◌∙◌, ◌≡◌}
 use Rattle.image.proofs.Reading.{blank_part}
 use Rattle.image.proofs.page.read.Goals as goal
 

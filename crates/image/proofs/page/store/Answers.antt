@@ -1,5 +1,4 @@
-use Rattle.std.proofs.Common.{◌≡◌, length, ap, ◌∙◌, arith}
-use Rattle.image.specs.Pages.{page_bytes}
+use Rattle.image.proofs.Common.{ap, arith, length, page_bytes, ◌∙◌, ◌≡◌}
 use Rattle.image.proofs.Flat.{page_length}
 use Rattle.image.proofs.page.store.Goals as goal
 

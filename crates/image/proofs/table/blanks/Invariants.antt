@@ -1,4 +1,4 @@
-use Rattle.image.specs.Pages.{AreBlank}
+use Rattle.image.specs.Private.Pages.{AreBlank}
 use Rattle.image.proofs.table.blanks.Given as goal
 
 abbrev pub invariant-loop : goal.invariant-loop

@@ -1,5 +1,4 @@
-use Rattle.std.proofs.Common.{take}
-use Rattle.image.specs.Pages.{HaveBytes, flat}
+use Rattle.image.proofs.Common.{flat, HaveBytes, take}
 use Rattle.image.proofs.table.copies.Given as goal
 
 abbrev pub invariant-loop-page : goal.invariant-loop-page

@@ -1,7 +1,4 @@
-use Rattle.std.proofs.Common.{◌<◌, ◌∙◌, ℕ, length, sym, ap, subst, rules}
-use Rattle.std.specs.declared.vec.Vec.{Vec}
-use Rattle.std.specs.declared.alloc.Global.{Global}
-use Rattle.image.specs.Pages.{IsPage}
+use Rattle.image.proofs.Common.{ap, Global, IsPage, length, rules, subst, sym, Vec, ℕ, ◌<◌, ◌∙◌}
 use Rattle.image.proofs.Flat.{page_at}
 use Rattle.image.proofs.Tables.{on_err, page_kept, page_made, set_at}
 use Rattle.image.proofs.table.make_each.Goals as goal

@@ -1,4 +1,4 @@
-use Rattle.image.specs.Pages.{AreMade, HaveBytes, flat}
+use Rattle.image.specs.Private.Pages.{AreMade, HaveBytes, flat}
 use Rattle.image.proofs.table.make_each.Given as goal
 
 abbrev pub invariant-loop-index : goal.invariant-loop-index

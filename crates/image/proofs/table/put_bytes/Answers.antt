@@ -1,5 +1,4 @@
-use Rattle.std.proofs.Common.{◌≡◌, ◌+◌, ◌-◌, ◌/◌, ◌≤◌, ◌∙◌, length, take, drop, ap, rules, arith}
-use Rattle.image.specs.Pages.{flat, put}
+use Rattle.image.proofs.Common.{ap, arith, drop, flat, length, put, rules, take, ◌+◌, ◌-◌, ◌/◌, ◌∙◌, ◌≡◌, ◌≤◌}
 use Rattle.image.proofs.Flat.{flat_length}
 use Rattle.image.proofs.Tables.{put_more}
 use Rattle.image.proofs.table.put_bytes.Goals as goal

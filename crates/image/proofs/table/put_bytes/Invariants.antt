@@ -1,5 +1,4 @@
-use Rattle.std.proofs.Common.{◌+◌, ◌-◌, ◌/◌, ◌≤◌, length, take}
-use Rattle.image.specs.Pages.{AreMade, HaveBytes, flat, put}
+use Rattle.image.proofs.Common.{AreMade, flat, HaveBytes, length, put, take, ◌+◌, ◌-◌, ◌/◌, ◌≤◌}
 use Rattle.image.proofs.table.put_bytes.Given as goal
 
 abbrev pub invariant-loop-done : goal.invariant-loop-done

@@ -1,9 +1,5 @@
-use Rattle.std.proofs.Common.{◌≡◌, ◌/◌, ◌%◌, ◌∙◌, ℕ, length, ap, rules, arith}
-use Rattle.std.specs.declared.vec.Vec.{Vec}
-use Rattle.std.specs.declared.alloc.Global.{Global}
+use Rattle.image.proofs.Common.{ap, arith, Global, length, put, rules, Vec, with_items_is, ℕ, ◌%◌, ◌/◌, ◌∙◌, ◌≡◌}
 use Rattle.std.specs.Vec.{with_items}
-use Rattle.std.proofs.lemmas.List.{with_items_is}
-use Rattle.image.specs.Pages.{put}
 use Rattle.image.proofs.Tables.{put_here}
 use Rattle.image.proofs.table.put_in_page.Goals as goal
 

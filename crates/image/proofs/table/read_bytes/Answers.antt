@@ -1,8 +1,4 @@
-use Rattle.std.proofs.Common.{◌≡◌, ◌+◌, ◌-◌, ◌/◌, ◌%◌, ◌≤◌, ◌<◌, ◌∙◌, ℕ, length, length-drop, take, drop, sym, ap, subst, rules, arith}
-use Rattle.std.specs.declared.vec.Vec.{Vec}
-use Rattle.std.specs.declared.alloc.Global.{Global}
-use Rattle.std.proofs.lemmas.List.{length-take-le}
-use Rattle.image.specs.Pages.{IsPage, flat, page_bytes}
+use Rattle.image.proofs.Common.{ap, arith, drop, flat, Global, IsPage, length, length-drop, length-take-le, page_bytes, rules, subst, sym, take, Vec, ℕ, ◌%◌, ◌+◌, ◌-◌, ◌/◌, ◌<◌, ◌∙◌, ◌≡◌, ◌≤◌}
 use Rattle.image.proofs.Flat.{flat_length, page_at}
 use Rattle.image.proofs.Tables.{read_here, read_long, read_more}
 use Rattle.image.proofs.table.read_bytes.Goals as goal

@@ -1,5 +1,4 @@
-use Rattle.std.proofs.Common.{◌≡◌, ◌-◌, ◌≤◌, length, take, drop}
-use Rattle.image.specs.Pages.{flat}
+use Rattle.image.proofs.Common.{drop, flat, length, take, ◌-◌, ◌≡◌, ◌≤◌}
 use Rattle.image.proofs.table.read_bytes.Given as goal
 
 abbrev pub invariant-loop-done : goal.invariant-loop-done

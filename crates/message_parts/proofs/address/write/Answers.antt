@@ -1,6 +1,4 @@
-use Rattle.json.proofs.Printed.Utf8.{IsUtf8-are_ascii}
-use Rattle.std.proofs.Common.{refl, ◌∙◌}
-use Rattle.message_parts.specs.Addresses.{address_text}
+use Rattle.message_parts.proofs.Common.{address_text, IsUtf8-are_ascii, refl, ◌∙◌}
 use Rattle.message_parts.proofs.Addresses.{ascii-address_text}
 use Rattle.message_parts.proofs.Appending.{IsWritten-token}
 use Rattle.message_parts.proofs.address.write.Goals as goal

@@ -1,6 +1,5 @@
-use Rattle.std.proofs.Common.{◌≡◌, ◌++◌, drop, map}
+use Rattle.message_parts.proofs.Common.{drop, map, members_tokens, ◌++◌, ◌≡◌}
 use Rattle.message_parts.specs.Initialize.{all_true}
-use Rattle.message_parts.specs.Written.{members_tokens}
 use Rattle.message_parts.proofs.initialize.all_true.Given as goal
 
 abbrev pub invariant-loop-name : goal.invariant-loop-name

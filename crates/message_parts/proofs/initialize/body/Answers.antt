@@ -1,6 +1,5 @@
-use Rattle.std.proofs.Common.{ℕ, List, [], ◌∷◌}
+use Rattle.message_parts.proofs.Common.{[], List, MembersHaveSmallNumbers, ℕ, ◌∷◌}
 use Rattle.message_parts.specs.Initialize.{all_true, capabilities}
-use Rattle.message_parts.specs.Written.{MembersHaveSmallNumbers}
 use Rattle.message_parts.proofs.Appending.{object_written}
 use Rattle.message_parts.proofs.initialize.body.Goals as goal
 

@@ -1,5 +1,4 @@
-use Rattle.json.proofs.Printed.Utf8.{IsUtf8-are_ascii}
-use Rattle.std.proofs.Common.{refl, ◌∙◌}
+use Rattle.message_parts.proofs.Common.{IsUtf8-are_ascii, refl, ◌∙◌}
 use Rattle.message_parts.specs.InstructionBytes.{bytes_text}
 use Rattle.message_parts.proofs.Appending.{IsWritten-token}
 use Rattle.message_parts.proofs.InstructionBytes.{ascii-bytes_text}

@@ -1,6 +1,4 @@
-use Rattle.std.proofs.Common.{◌≡◌, ap, ◌∙◌, subst, arith}
-use Rattle.std.proofs.lemmas.Int.{ints, to_z-of_z}
-use Rattle.std.specs.Fmt.{signed_decimal}
+use Rattle.message_parts.proofs.Common.{ap, arith, ints, signed_decimal, subst, to_z-of_z, ◌∙◌, ◌≡◌}
 use mir.Syntax.{w32, w64}
 use mir.Val.{SFits, of_z, to_z}
 use Rattle.json.specs.Token.{number as digits}

@@ -1,5 +1,4 @@
-use Rattle.std.proofs.Common.{◌<◌, ◌^◌, arith, refl}
-use Rattle.serde_json.specs.Data.{number, unsigned}
+use Rattle.message_parts.proofs.Common.{arith, number, refl, unsigned, ◌<◌, ◌^◌}
 use Rattle.message_parts.proofs.Appending.{IsWritten-token}
 use Rattle.message_parts.proofs.part.number.Goals as goal
 

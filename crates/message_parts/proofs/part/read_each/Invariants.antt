@@ -1,7 +1,6 @@
-use Rattle.std.proofs.Common.{◌≡◌, drop}
+use Rattle.message_parts.proofs.Common.{all_found, drop, ◌≡◌}
 use Rattle.serde_json.specs.View.{items_view}
 use Rattle.protocol.proofs.Lists.{with_others}
-use Rattle.message_parts.specs.Forms.{all_found}
 use Rattle.message_parts.proofs.part.read_each.Given as goal
 
 -- the list is taken for the entries so far, and then for what is left of it

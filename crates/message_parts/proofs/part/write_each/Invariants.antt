@@ -1,6 +1,4 @@
-use Rattle.std.proofs.Common.{◌≡◌, ◌++◌, drop}
-use Rattle.message_parts.specs.Forms.{items_of}
-use Rattle.message_parts.specs.Written.{ItemsHaveSmallNumbers, items_tokens}
+use Rattle.message_parts.proofs.Common.{drop, items_of, items_tokens, ItemsHaveSmallNumbers, ◌++◌, ◌≡◌}
 use Rattle.message_parts.proofs.part.write_each.Given as goal
 
 abbrev pub invariant-loop-entry : goal.invariant-loop-entry

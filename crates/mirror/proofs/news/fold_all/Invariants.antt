@@ -1,7 +1,5 @@
-use Rattle.std.proofs.Common.{◌≡◌, take}
+use Rattle.mirror.proofs.Common.{at, facts_of, folded, take, ◌≡◌}
 use Rattle.std.specs.Prelude.{fold}
-use Rattle.mirror.specs.Folding.{folded}
-use Rattle.mirror.specs.Kept.{at, facts_of}
 use Rattle.mirror.proofs.news.fold_all.Given as goal
 
 -- the messages so far are folded

@@ -1,5 +1,4 @@
-use Rattle.std.proofs.Common.{ap, sym, ◌∙◌}
-use Rattle.framing.specs.Streams.{Unframed}
+use Rattle.mirror.proofs.Common.{ap, sym, Unframed, ◌∙◌}
 use Rattle.mirror.proofs.Streaming.{error_more, messages_more, smaller}
 use Rattle.mirror.proofs.news.read_all.Goals as goal
 

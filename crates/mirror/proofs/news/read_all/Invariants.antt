@@ -1,5 +1,4 @@
-use Rattle.std.proofs.Common.{◌≡◌, ◌++◌, length}
-use Rattle.mirror.specs.Streams.{error_of, messages_of}
+use Rattle.mirror.proofs.Common.{error_of, length, messages_of, ◌++◌, ◌≡◌}
 use Rattle.mirror.proofs.news.read_all.Given as goal
 
 -- the messages so far, and those of the bodies that still wait, are all; no body so far is no message

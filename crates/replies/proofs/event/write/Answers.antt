@@ -1,5 +1,4 @@
-use Rattle.replies.specs.Events.{event_body}
-use Rattle.message_parts.proofs.Appending.{object_written, and_then, if_then}
+use Rattle.replies.proofs.Common.{and_then, event_body, if_then, object_written}
 use Rattle.replies.proofs.event.write.Goals as goal
 
 pub returns : goal.returns

@@ -1,7 +1,5 @@
-use Rattle.std.proofs.Common.{◌≡◌, false, bytes_eq, rules, sym, ◌∙◌}
-use Rattle.std.specs.List.{AllByRecursion, list_any}
+use Rattle.replies.proofs.Common.{all_taken, AllByRecursion, bytes_eq, false, list_any, rules, sym, Taken, without_body, ◌∙◌, ◌≡◌}
 use Rattle.serde_json.specs.View.{view}
-use Rattle.replies.specs.Bodies.{Taken, all_taken, without_body}
 use Rattle.replies.proofs.BodyTable.{unknown_has_none}
 use Rattle.replies.proofs.reading.body_in.Goals as goal
 

@@ -1,5 +1,4 @@
-use Rattle.replies.specs.Bodies.{body_data}
-use Rattle.message_parts.proofs.Appending.{object_written, and_then, if_then}
+use Rattle.replies.proofs.Common.{and_then, body_data, if_then, object_written}
 use Rattle.replies.proofs.writing.success.Goals as goal
 
 pub returns : goal.returns

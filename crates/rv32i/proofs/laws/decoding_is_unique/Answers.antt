@@ -1,5 +1,4 @@
-use Rattle.std.proofs.Common.{subst, sym}
-use Rattle.rv32i.specs.Encoding.{IsDecoding}
+use Rattle.rv32i.proofs.Common.{IsDecoding, subst, sym}
 use Rattle.rv32i.proofs.Moving.{one_decoding}
 use Rattle.rv32i.proofs.laws.decoding_is_unique.Goals as goal
 

@@ -1,6 +1,5 @@
-use Rattle.std.proofs.Common.{ℕ, List, refl, sym, ap, ◌∙◌}
-use Rattle.std.specs.Prelude.{bytes_eq}
-use Rattle.rv32i.specs.Names.{name_of, number_named}
+use Rattle.rv32i.proofs.Common.{ap, bytes_eq, List, name_of, refl, sym, ℕ, ◌∙◌}
+use Rattle.rv32i.specs.Names.{number_named}
 use Rattle.rv32i.proofs.Following.{found_later}
 use Rattle.rv32i.proofs.names.reg_named.Goals as goal
 

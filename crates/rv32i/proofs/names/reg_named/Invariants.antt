@@ -1,7 +1,5 @@
-use Rattle.std.proofs.Common.{◌≡◌, ◌-◌}
-use Rattle.std.specs.Prelude.{bytes_eq, find}
+use Rattle.rv32i.proofs.Common.{bytes_eq, find, name_of, number_named, ◌-◌, ◌≡◌}
 use Rattle.std.specs.List.{range_with_len}
-use Rattle.rv32i.specs.Names.{name_of, number_named}
 use Rattle.rv32i.proofs.names.reg_named.Given as goal
 
 abbrev pub invariant-loop-number : goal.invariant-loop-number

@@ -1,7 +1,7 @@
 use Rattle.std.proofs.Common.{◌%◌, sym, ap, ◌∙◌}
 use Rattle.rv32i.proofs.Candidates.{names_none}
 use Rattle.rv32i.proofs.Texts.{differ}
-use Rattle.rv32i.specs.Candidates.{candidate}
+use Rattle.rv32i.specs.Private.Candidates.{candidate}
 use Rattle.rv32i.proofs.names.reg_of.Goals as goal
 
 pub returns : goal.returns

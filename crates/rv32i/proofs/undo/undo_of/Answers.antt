@@ -1,5 +1,4 @@
-use Rattle.std.proofs.Common.{subst}
-use Rattle.rv32i.specs.Machine.{IsDecodedAtPc, machine_of}
+use Rattle.rv32i.proofs.Common.{IsDecodedAtPc, machine_of, subst}
 use Rattle.rv32i.proofs.Undoing.{kept_undoes}
 use Rattle.rv32i.proofs.undo.undo_of.Goals as goal
 

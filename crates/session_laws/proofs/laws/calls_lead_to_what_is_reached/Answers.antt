@@ -1,5 +1,4 @@
-use Rattle.session_laws.proofs.Common.{start}
-use Rattle.session.proofs.Reaching.{whole_events}
+use Rattle.session_laws.proofs.Common.{start, whole_events}
 use Rattle.session_laws.proofs.Calls.{calls_lead, leads_on}
 use Rattle.session_laws.proofs.laws.calls_lead_to_what_is_reached.Goals as goal
 

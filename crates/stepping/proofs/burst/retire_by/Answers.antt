@@ -1,6 +1,4 @@
-use Rattle.std.proofs.Common.{◌≡◌, ℕ, refl, ap, ◌∙◌, subst, arith}
-use Rattle.course.specs.Calls.{Kept}
-use Rattle.stepping.specs.Bursts.{IsFar, Retire}
+use Rattle.stepping.proofs.Common.{ap, arith, IsFar, Kept, refl, Retire, subst, ℕ, ◌∙◌, ◌≡◌}
 use Rattle.stepping.proofs.Bursting.{retire_more, retires_deeper}
 use Rattle.stepping.proofs.burst.retire_by.Goals as goal
 use Rattle.stepping.proofs.burst.retire_by.Goals.{else-this-ne0-via-then-this-ne0+else-is_near, else-this-ne0-via-else-this-ne0}

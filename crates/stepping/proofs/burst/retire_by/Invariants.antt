@@ -1,5 +1,4 @@
-use Rattle.std.proofs.Common.{◌≡◌, ◌≤◌, ◌+◌}
-use Rattle.stepping.specs.Bursts.{Retire}
+use Rattle.stepping.proofs.Common.{Retire, ◌+◌, ◌≡◌, ◌≤◌}
 use Rattle.stepping.proofs.burst.retire_by.Given as goal
 
 abbrev pub invariant-loop-went : goal.invariant-loop-went

@@ -1,7 +1,4 @@
-use Rattle.std.proofs.Common.{◌≤◌}
-use Rattle.session.specs.Kept.{OfEach}
-use Rattle.transport.specs.Drives.{Driving}
-use Rattle.transport.specs.Told.{known}
+use Rattle.transport.proofs.Common.{Driving, known, OfEach, ◌≤◌}
 use Rattle.transport.proofs.drives.drive_in.Given as goal
 
 -- the count of moves is not above its greatest value, and the session has been driven since the start

@@ -1,5 +1,4 @@
-use Rattle.std.proofs.Common.{rules, ◌<◌, ◌≤◌, length}
-use Rattle.transport.specs.Rounds.{Run}
+use Rattle.transport.proofs.Common.{length, rules, Run, ◌<◌, ◌≤◌}
 use Rattle.transport.proofs.RoundLemmas.{granted}
 use Rattle.transport.proofs.Driving.{bytes_came, input_ended, comes_fail}
 use Rattle.transport.proofs.drives.look.Goals as goal

@@ -1,5 +1,4 @@
-use Rattle.std.proofs.Common.{rules, ◌<◌, ◌≤◌, length, refl}
-use Rattle.transport.specs.Rounds.{Receive}
+use Rattle.transport.proofs.Common.{length, Receive, refl, rules, ◌<◌, ◌≤◌}
 use Rattle.transport.proofs.RoundLemmas.{above_zero}
 use Rattle.transport.proofs.Driving.{bytes_came, input_ended, comes_fail}
 use Rattle.transport.proofs.drives.receive.Goals as goal

@@ -1,7 +1,4 @@
-use Rattle.std.proofs.Common.{◌+◌, [], ◌∷◌}
-use Rattle.session.specs.declared.event.Event.TheVariants.{Slice}
-use Rattle.transport.specs.Drives.{is_held}
-use Rattle.transport.specs.Told.{holds}
+use Rattle.transport.proofs.Common.{[], holds, is_held, Slice, ◌+◌, ◌∷◌}
 use Rattle.transport.proofs.FileReads.{Records-trans as told_then}
 use Rattle.transport.proofs.RoundLemmas.{few_counted}
 use Rattle.transport.proofs.Driving.{runs_over, time_is_cut}

@@ -1,5 +1,4 @@
-use Rattle.std.proofs.Common.{◌≡◌, length, arith, sym}
-use Rattle.std.proofs.lemmas.Bool.Decides.{nat_tests}
+use Rattle.transport.proofs.Common.{arith, length, nat_tests, sym, ◌≡◌}
 use Rattle.transport.proofs.RoundLemmas.{granted}
 use Rattle.transport.proofs.Driving.{leave_is_due, all_said}
 use Rattle.transport.proofs.drives.turn.Goals as goal

@@ -1,5 +1,4 @@
-use Rattle.std.proofs.Common.{sym, ◌∙◌, ap, Ok}
-use Rattle.framing.specs.Streams.{Unframed}
+use Rattle.transport.proofs.Common.{ap, Ok, sym, Unframed, ◌∙◌}
 use Rattle.transport.proofs.ServerLemmas.{ignored, gave, fails}
 use Rattle.transport.proofs.inbox.take_message.Goals as goal
 

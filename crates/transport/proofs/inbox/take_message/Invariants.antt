@@ -1,5 +1,4 @@
-use Rattle.std.proofs.Common.{◌≡◌, length}
-use Rattle.transport.specs.Heard.{Heard, HasHeard}
+use Rattle.transport.proofs.Common.{HasHeard, Heard, length, ◌≡◌}
 use Rattle.transport.proofs.inbox.take_message.Given as goal
 
 -- what was passed over changes nothing of what was heard

@@ -1,6 +1,5 @@
-use Rattle.std.proofs.Common.{refl}
+use Rattle.transport.proofs.Common.{DropConnection, refl}
 use Rattle.session.specs.declared.event.Applied.TheVariants as applied
-use Rattle.session.specs.declared.event.Event.TheVariants.{DropConnection}
 use Rattle.transport.proofs.RoundLemmas.{happened}
 use Rattle.transport.proofs.rounds.leave.Goals as goal
 

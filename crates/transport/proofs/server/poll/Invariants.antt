@@ -1,6 +1,5 @@
-use Rattle.std.proofs.Common.{◌≤◌, ◌-◌}
-use Rattle.transport.specs.Heard.{Heard, HasRead}
-use Rattle.transport.specs.Inbox.{Listens}
+use Rattle.transport.proofs.Common.{HasRead, Heard, ◌-◌, ◌≤◌}
+use Rattle.transport.specs.Private.Inbox.{Listens}
 use Rattle.transport.proofs.server.poll.Given as goal
 
 -- there were no more reads than there may be, and what was read so far held nothing to give

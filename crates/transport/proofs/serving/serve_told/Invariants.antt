@@ -1,7 +1,5 @@
-use Rattle.std.proofs.Common.{◌≡◌, ◌≤◌, ◌-◌, vec_len}
-use Rattle.session.specs.Kept.{OfEach}
-use Rattle.transport.specs.Serving.{ServedSoFar}
-use Rattle.transport.specs.Told.{known}
+use Rattle.transport.proofs.Common.{known, OfEach, vec_len, ◌-◌, ◌≡◌, ◌≤◌}
+use Rattle.transport.specs.Private.Serving.{ServedSoFar}
 use Rattle.transport.proofs.serving.serve_told.Given as goal
 
 -- there is room to receive into, no more turns were taken than there are, and the session has been served since the start

@@ -1,5 +1,4 @@
-use Rattle.std.proofs.Common.{◌≡◌, ◌+◌, ◌≤◌, length, take}
-use Rattle.variables.specs.Numbers.{with_all}
+use Rattle.variables.proofs.Common.{length, take, with_all, ◌+◌, ◌≡◌, ◌≤◌}
 use Rattle.variables.proofs.handles.count_new.Given as goal
 
 abbrev pub invariant-loop-i : goal.invariant-loop-i

@@ -1,5 +1,4 @@
-use Rattle.std.proofs.Common.{◌≡◌, ◌+◌, drop}
-use Rattle.variables.specs.Numbers.{number_from}
+use Rattle.variables.proofs.Common.{drop, number_from, ◌+◌, ◌≡◌}
 use Rattle.variables.proofs.handles.number_from.Given as goal
 
 abbrev pub invariant-loop-known : goal.invariant-loop-known

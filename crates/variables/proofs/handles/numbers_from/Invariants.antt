@@ -1,5 +1,4 @@
-use Rattle.std.proofs.Common.{◌≡◌, map, take, Some}
-use Rattle.variables.specs.Numbers.{number_from}
+use Rattle.variables.proofs.Common.{map, number_from, Some, take, ◌≡◌}
 use Rattle.variables.proofs.handles.numbers_from.Given as goal
 
 abbrev pub invariant-loop-target : goal.invariant-loop-target

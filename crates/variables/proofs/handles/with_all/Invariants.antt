@@ -1,5 +1,4 @@
-use Rattle.std.proofs.Common.{◌≡◌, drop}
-use Rattle.variables.specs.Numbers.{with_all}
+use Rattle.variables.proofs.Common.{drop, with_all, ◌≡◌}
 use Rattle.variables.proofs.handles.with_all.Given as goal
 
 abbrev pub invariant-loop-target : goal.invariant-loop-target

@@ -1,5 +1,4 @@
-use Rattle.std.proofs.Common.{◌≡◌, ◌≤◌, map}
-use Rattle.std.specs.List.{range_with_len}
+use Rattle.variables.proofs.Common.{map, range_with_len, ◌≡◌, ◌≤◌}
 use Rattle.variables.specs.Registers.{register}
 use Rattle.variables.proofs.register.registers.Given as goal
 

@@ -1,8 +1,7 @@
-use Rattle.std.proofs.Common.{ℕ, ◌*◌, List, ◌∷◌, ◌++◌, slice_index, [], ap, ◌∙◌}
-use Rattle.std.specs.List.{range_with_len}
+use Rattle.variables.proofs.Common.{[], ap, List, name_at, range_with_len, slice_index, words, ℕ, ◌*◌, ◌++◌, ◌∙◌, ◌∷◌}
 use Rattle.message_parts.specs.declared.variables.Variable.{Variable}
 use Rattle.rv32i.specs.Machine.{sum}
-use Rattle.variables.specs.Stack.{name_at, stack_words, words}
+use Rattle.variables.specs.Stack.{stack_words}
 use Rattle.variables.proofs.Ranges.{has_it, value_of_it, words_on}
 use Rattle.variables.proofs.stack.stack_words.Goals as goal
 

@@ -1,6 +1,4 @@
-use Rattle.std.proofs.Common.{◌≡◌, ◌-◌, ◌++◌}
-use Rattle.std.specs.List.{range_with_len}
-use Rattle.variables.specs.Stack.{stack_words, words}
+use Rattle.variables.proofs.Common.{range_with_len, stack_words, words, ◌++◌, ◌-◌, ◌≡◌}
 use Rattle.variables.proofs.stack.stack_words.Given as goal
 
 abbrev pub invariant-loop-number : goal.invariant-loop-number

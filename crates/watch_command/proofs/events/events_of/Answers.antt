@@ -1,7 +1,5 @@
-use Rattle.std.proofs.Common.{List, [], ◌∷◌, ◌++◌, sym, subst}
-use Rattle.session.specs.declared.event.Event.{Event}
+use Rattle.watch_command.proofs.Common.{[], Event, HasEvents, List, subst, sym, ◌++◌, ◌∷◌}
 use Rattle.watch_command.proofs.Reading.{next_event, none_yet}
-use Rattle.watch_command.specs.Playing.{HasEvents}
 use Rattle.watch_command.proofs.events.events_of.Goals as goal
 
 pub loop-step-init : goal.loop-step-init

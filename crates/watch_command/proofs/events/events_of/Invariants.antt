@@ -1,4 +1,4 @@
-use Rattle.watch_command.specs.Playing.{HasEvents}
+use Rattle.watch_command.specs.Private.Playing.{HasEvents}
 use Rattle.watch_command.proofs.events.events_of.Given as goal
 
 -- the steps so far have these events

@@ -1,5 +1,4 @@
-use Rattle.std.proofs.Common.{ap}
-use Rattle.framing.specs.Streams.{Unframed}
+use Rattle.watch_command.proofs.Common.{ap, Unframed}
 use Rattle.watch_command.proofs.Leaving.{left_step, none_left}
 use Rattle.watch_command.proofs.fed.after_frames.Goals as goal
 

@@ -1,6 +1,4 @@
-use Rattle.std.proofs.Common.{length}
-use Rattle.framing.specs.Reading.{reading_of}
-use Rattle.watch_command.specs.Conversing.{HasLeft}
+use Rattle.watch_command.proofs.Common.{HasLeft, length, reading_of}
 use Rattle.watch_command.proofs.fed.after_frames.Given as goal
 
 -- what is left are the frames of the bodies that wait, and what comes after them

@@ -1,6 +1,5 @@
-use Rattle.std.proofs.Common.{◌≡◌, ℕ, ◌-◌, length, take, drop, length-drop, ap, sym, ◌∙◌}
+use Rattle.watch_command.proofs.Common.{ap, begins_with_end, drop, length, length-drop, sym, take, ℕ, ◌-◌, ◌∙◌, ◌≡◌}
 use Rattle.std.proofs.Math.Seq.{take-length}
-use Rattle.framing.specs.Headers.{begins_with_end}
 use Rattle.watch_command.proofs.Leaving.{found_later}
 use Rattle.watch_command.proofs.fed.end_of.Goals as goal
 

@@ -1,5 +1,4 @@
-use Rattle.std.proofs.Common.{◌≡◌, drop}
-use Rattle.framing.specs.Headers.{end_of}
+use Rattle.watch_command.proofs.Common.{drop, end_of, ◌≡◌}
 use Rattle.watch_command.proofs.Leaving.{found_after}
 use Rattle.watch_command.proofs.fed.end_of.Given as goal
 

@@ -1,8 +1,7 @@
-use Rattle.std.proofs.Common.{Result, Err, subst, sym}
+use Rattle.watch_command.proofs.Common.{Err, Replays, Result, subst, sym}
 use Rattle.session.specs.Begins.{Begins, HasBegun}
 use Rattle.session.specs.declared.limits.Limits.{Limits}
 use Rattle.watch_command.proofs.Showing.{none_begins, replays}
-use Rattle.watch_command.specs.Conversing.{Replays}
 use Rattle.watch_command.specs.declared.asked.ReplayFault.{ReplayFault}
 use Rattle.watch_command.proofs.replaying.replay.Goals as goal
 

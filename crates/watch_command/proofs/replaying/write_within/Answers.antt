@@ -1,6 +1,5 @@
-use Rattle.std.proofs.Common.{sym, ◌∙◌}
+use Rattle.watch_command.proofs.Common.{HasPart, sym, ◌∙◌}
 use Rattle.watch_command.proofs.Showing.{part_written, was_asked}
-use Rattle.watch_command.specs.Conversing.{HasPart}
 use Rattle.watch_command.proofs.replaying.write_within.Goals as goal
 
 pub returns-in-Err : goal.returns-in-Err

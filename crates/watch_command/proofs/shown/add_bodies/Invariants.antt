@@ -1,6 +1,4 @@
-use Rattle.std.proofs.Common.{◌≡◌, ◌++◌, length}
-use Rattle.std.specs.List.{flat_map}
-use Rattle.watch_command.specs.Shown.{line}
+use Rattle.watch_command.proofs.Common.{flat_map, length, line, ◌++◌, ◌≡◌}
 use Rattle.watch_command.proofs.shown.add_bodies.Given as goal
 
 -- the lines so far, and those of the bodies that still wait, are all

@@ -1,8 +1,6 @@
-use Rattle.std.proofs.Common.{◌≡◌, ◌≤◌, ℕ, Bool, List, ◌++◌, length, drop, sym, ap, ◌∙◌, append-nil}
-use Rattle.std.proofs.lemmas.List.{drop_all}
-use Rattle.std.specs.List.{flat_map}
+use Rattle.watch_command.proofs.Common.{ap, append-nil, Bool, drop, drop_all, flat_map, length, List, shown_byte, sym, ℕ, ◌++◌, ◌∙◌, ◌≡◌, ◌≤◌}
 use Rattle.std.specs.Str.{is_utf8}
-use Rattle.watch_command.specs.Shown.{shown, shown_byte}
+use Rattle.watch_command.specs.Shown.{shown}
 use Rattle.watch_command.proofs.shown.add_shown.Goals as goal
 
 all_shown : (text now words : List ℕ) (utf8 : Bool) (index : ℕ) → utf8 ≡ is_utf8 words → length words ≤ index

@@ -1,6 +1,4 @@
-use Rattle.std.proofs.Common.{◌≡◌, ◌++◌, drop}
-use Rattle.std.specs.List.{flat_map}
-use Rattle.watch_command.specs.Shown.{shown_byte}
+use Rattle.watch_command.proofs.Common.{drop, flat_map, shown_byte, ◌++◌, ◌≡◌}
 use Rattle.watch_command.proofs.shown.add_shown.Given as goal
 
 -- what is shown so far, and what is left

@@ -1,8 +1,6 @@
-use Rattle.std.proofs.Common.{ℕ, ◌+◌, ap, sym, subst, ◌∙◌}
+use Rattle.watch_command.proofs.Common.{ap, Config, Done, Fails, fault_of, HasWatched, StepsFail, subst, sym, ℕ, ◌+◌, ◌∙◌}
 use Rattle.scripts.specs.declared.fault.ScriptFault.{ScriptFault}
-use Rattle.session.specs.declared.config.Config.{Config}
 use Rattle.watch_command.proofs.Failing.{none_watched, some_watched}
-use Rattle.watch_command.specs.Playing.{Done, Fails, HasWatched, StepsFail, fault_of}
 use Rattle.watch_command.proofs.watching.watch_script.Goals as goal
 
 pub returns-in-Ok-clause-ok : goal.returns-in-Ok-clause-ok

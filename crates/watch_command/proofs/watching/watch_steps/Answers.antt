@@ -1,7 +1,5 @@
-use Rattle.std.proofs.Common.{List, Err, subst}
-use Rattle.session.specs.declared.event.Event.{Event}
+use Rattle.watch_command.proofs.Common.{Err, Event, List, subst, WatchAnswers}
 use Rattle.watch_command.proofs.Failing.{unwatched}
-use Rattle.watch_command.specs.Playing.{WatchAnswers}
 use Rattle.watch_command.proofs.watching.watch_steps.Goals as goal
 
 pub returns-in-Err-clause-err : goal.returns-in-Err-clause-err

@@ -1,5 +1,4 @@
-use Rattle.std.proofs.Common.{◌≡◌, length, None}
-use Rattle.mirror.specs.Streams.{stream_fault}
+use Rattle.watch_events.proofs.Common.{length, None, stream_fault, ◌≡◌}
 use Rattle.watch_events.proofs.Lasts.{IsLeft}
 use Rattle.watch_events.proofs.last.last_message.Given as goal
 

@@ -1,7 +1,6 @@
-use Rattle.std.proofs.Common.{Bool, subst}
+use Rattle.watch_events.proofs.Common.{Bool, requests_of, subst, TellsBody}
 use Rattle.protocol.specs.Reading.{incoming_of}
 use Rattle.watch_events.proofs.Telling.{next_telling, told_to_fault}
-use Rattle.watch_events.specs.Replaying.{TellsBody, requests_of}
 use Rattle.watch_events.proofs.watching.tell.Goals as goal
 
 pub returns-then-not-branch : goal.returns-then-not-branch

@@ -1,7 +1,5 @@
-use Rattle.std.proofs.Common.{length}
-use Rattle.mirror.specs.Streams.{StandsFor, nothing_past}
+use Rattle.watch_events.proofs.Common.{length, nothing_past, requests_of, StandsFor}
 use Rattle.watch_events.proofs.Telling.{Telling}
-use Rattle.watch_events.specs.Replaying.{requests_of}
 use Rattle.watch_events.proofs.watching.tell.Given as goal
 
 -- the requests so far were told, and those in the bodies that wait are left

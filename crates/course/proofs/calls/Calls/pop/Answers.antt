@@ -1,8 +1,4 @@
-use Rattle.std.proofs.Common.{◌≡◌, ◌∙◌, ℕ, ◌-◌, ◌≤◌, ap, drop, arith}
-use Rattle.std.specs.Prelude.{slice_get}
-use Rattle.circular_buffer.specs.Buffer.{Buffer}
-use Rattle.course.specs.Calls.{Kept}
-use Rattle.course.specs.Moves.{popped, unnoted}
+use Rattle.course.proofs.Common.{ap, arith, Buffer, drop, Kept, popped, slice_get, unnoted, ℕ, ◌-◌, ◌∙◌, ◌≡◌, ◌≤◌}
 use Rattle.course.proofs.Calling.{pop_back}
 use Rattle.course.proofs.calls.Calls.pop.Goals as goal
 

@@ -1,8 +1,4 @@
-use Rattle.std.proofs.Common.{◌≡◌, ◌∙◌, ℕ, ◌+◌, ◌∷◌, take, ap}
-use Rattle.std.specs.Prelude.{slice_get}
-use Rattle.circular_buffer.specs.Buffer.{Buffer}
-use Rattle.course.specs.Calls.{Kept}
-use Rattle.course.specs.Moves.{pushed, unnoted}
+use Rattle.course.proofs.Common.{ap, Buffer, Kept, pushed, slice_get, take, unnoted, ℕ, ◌+◌, ◌∙◌, ◌∷◌, ◌≡◌}
 use Rattle.course.proofs.Calling.{push_back}
 use Rattle.course.proofs.calls.Calls.push.Goals as goal
 

@@ -1,9 +1,4 @@
-use Rattle.std.proofs.Common.{◌≡◌, ◌∙◌, ℕ, ◌+◌, ◌-◌, ◌≤◌, ◌∷◌, List, length, take, drop, ap, sym, subst, arith}
-use Rattle.std.specs.Prelude.{slice_get}
-use Rattle.std.proofs.lemmas.List.{length-drop, length-take}
-use Rattle.circular_buffer.specs.Buffer.{Buffer}
-use Rattle.course.specs.Calls.{Kept}
-use Rattle.course.specs.Moves.{swapped, unnoted}
+use Rattle.course.proofs.Common.{ap, arith, Buffer, drop, Kept, length, length-drop, length-take, List, slice_get, subst, swapped, sym, take, unnoted, ℕ, ◌+◌, ◌-◌, ◌∙◌, ◌∷◌, ◌≡◌, ◌≤◌}
 use Rattle.course.proofs.Calling.{swap_back}
 use Rattle.course.proofs.calls.Calls.swap.Goals as goal
 

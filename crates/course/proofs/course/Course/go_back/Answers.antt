@@ -1,7 +1,4 @@
-use Rattle.std.proofs.Common.{◌≡◌, ◌∙◌, List, ap, drop, subst, sym}
-use Rattle.course.specs.Moves.{AllAreKept, course_of, moves_of}
-use Rattle.course.specs.Positions.{Course, Position, UndoNeedsPage, gone_back}
-use Rattle.course.specs.declared.moves.Move.{Move}
+use Rattle.course.proofs.Common.{AllAreKept, ap, Course, course_of, drop, gone_back, List, Move, moves_of, Position, subst, sym, UndoNeedsPage, ◌∙◌, ◌≡◌}
 use Rattle.course.proofs.Coursing.{newest, none_back}
 use Rattle.course.proofs.Making.{on_err}
 use Rattle.course.proofs.course.Course.go_back.Goals as goal

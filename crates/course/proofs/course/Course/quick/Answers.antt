@@ -1,4 +1,4 @@
-use Rattle.course.specs.Moves.{moves_of}
+use Rattle.course.specs.Private.Moves.{moves_of}
 use Rattle.course.proofs.Coursing.{gone}
 use Rattle.course.proofs.course.Course.quick.Goals as goal
 

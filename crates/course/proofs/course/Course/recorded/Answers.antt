@@ -1,6 +1,4 @@
-use Rattle.std.proofs.Common.{◌∙◌, length, sym, ap}
-use Rattle.course.specs.Positions.{Course}
-use Rattle.course.specs.Moves.{moves_of}
+use Rattle.course.proofs.Common.{ap, Course, length, moves_of, sym, ◌∙◌}
 use Rattle.course.proofs.Coursing.{length_past}
 use Rattle.course.proofs.course.Course.recorded.Goals as goal
 

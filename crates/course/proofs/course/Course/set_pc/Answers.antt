@@ -1,6 +1,4 @@
-use Rattle.std.proofs.Common.{◌∙◌, ap, sym, subst}
-use Rattle.course.specs.Positions.{Course, Position, position_at}
-use Rattle.course.specs.Moves.{AllAreKept, course_of, moves_of}
+use Rattle.course.proofs.Common.{AllAreKept, ap, Course, course_of, moves_of, Position, position_at, subst, sym, ◌∙◌}
 use Rattle.course.proofs.Coursing.{all_at, settled}
 use Rattle.course.proofs.course.Course.set_pc.Goals as goal
 

@@ -1,9 +1,4 @@
-use Rattle.std.proofs.Common.{◌≡◌, ◌≤◌, ◌∙◌, Ok, Bool, true, false, cond, ap, sym, subst, arith}
-use Rattle.rv32i.specs.Steps.{settles}
-use Rattle.rv32i.specs.Undoing.{retires}
-use Rattle.course.specs.Positions.{Course, Position, position_at, recorded}
-use Rattle.course.specs.Moves.{AllAreKept, IsOfStore, course_of, kept_of_pc, moves_of, undo_in, unmade}
-use Rattle.course.specs.declared.moves.Move.{Move}
+use Rattle.course.proofs.Common.{AllAreKept, ap, arith, Bool, cond, Course, course_of, false, IsOfStore, kept_of_pc, Move, moves_of, Ok, Position, position_at, recorded, retires, settles, subst, sym, true, undo_in, unmade, ◌∙◌, ◌≡◌, ◌≤◌}
 use Rattle.course.proofs.Coursing.{all_at, all_kept, settled, stepped_back, went}
 use Rattle.course.proofs.course.Course.settle.Goals as goal
 

@@ -1,6 +1,4 @@
-use Rattle.std.proofs.Common.{◌≡◌, ◌∙◌, List, ap, subst, sym, ℕ}
-use Rattle.course.specs.Moves.{AllAreKept, course_of, moves_of}
-use Rattle.course.specs.Positions.{Course, Position}
+use Rattle.course.proofs.Common.{AllAreKept, ap, Course, course_of, List, moves_of, Position, subst, sym, ℕ, ◌∙◌, ◌≡◌}
 use Rattle.course.proofs.Remembering.{unwritten}
 use Rattle.course.proofs.course.Course.write.Goals as goal
 

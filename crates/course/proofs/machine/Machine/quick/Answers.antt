@@ -1,10 +1,5 @@
-use Rattle.std.proofs.Common.{◌≡◌, ◌∙◌, ℕ, ◌-◌, ◌*◌, ◌/◌, ◌^◌, ◌<◌, List, ap, subst, refl, sym, arith}
+use Rattle.course.proofs.Common.{ap, AreKnown, arith, CanBeKept, Entry, forgotten, Halts, Kept, kept as kept_move, List, machine_at, moves_of, placed, Position, refl, stored_at, subst, sym, with_called, with_move, ℕ, ◌*◌, ◌-◌, ◌/◌, ◌<◌, ◌^◌, ◌∙◌, ◌≡◌}
 use Rattle.rv32i.specs.declared.performing.Halt.TheVariants.{Stopped}
-use Rattle.course.specs.Calls.{Kept}
-use Rattle.course.specs.Moves.{CanBeKept, kept as kept_move, moves_of, placed, with_called, with_move}
-use Rattle.course.specs.Positions.{Halts, Position, machine_at}
-use Rattle.course.specs.Words.{AreKnown, forgotten, stored_at}
-use Rattle.course.specs.declared.entry.Entry.{Entry}
 use Rattle.course.proofs.Moving.{found, halts, kept, known_stored, marked, plain, same_position, stored, traps, unmarked_store}
 use Rattle.course.proofs.Calling.{marks_fit}
 use Rattle.course.proofs.Logging.{amended_moves, room_behind, taken_back}

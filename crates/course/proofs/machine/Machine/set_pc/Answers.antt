@@ -1,5 +1,4 @@
-use Rattle.std.proofs.Common.{refl}
-use Rattle.course.specs.Positions.{Position}
+use Rattle.course.proofs.Common.{Position, refl}
 use Rattle.course.proofs.Moving.{with_pc}
 use Rattle.course.proofs.machine.Machine.set_pc.Goals as goal
 

@@ -1,9 +1,4 @@
-use Rattle.std.proofs.Common.{◌∙◌, ap, subst, sym, arith}
-use Rattle.rv32i.specs.Undoing.{undone}
-use Rattle.rv32i.specs.declared.undo.Undo.{Undo}
-use Rattle.course.specs.Calls.{Kept}
-use Rattle.course.specs.Moves.{CanBeKept, CanBeUnmade, PutsInBlank, machine_in, undo_in, unmade, unnoted}
-use Rattle.course.specs.Positions.{Position}
+use Rattle.course.proofs.Common.{ap, arith, CanBeKept, CanBeUnmade, Kept, machine_in, Position, PutsInBlank, subst, sym, Undo, undo_in, undone, unmade, unnoted, ◌∙◌}
 use Rattle.course.specs.declared.calls.Called.{Called}
 use Rattle.course.proofs.Making.{known_undone, on_err, unmade_by}
 use Rattle.course.proofs.machine.Machine.undo.Goals as goal

@@ -1,5 +1,4 @@
-use Rattle.std.proofs.Common.{ℕ, List, sym, subst, arith}
-use Rattle.course.specs.Words.{AreKnown}
+use Rattle.course.proofs.Common.{AreKnown, arith, List, subst, sym, ℕ}
 use Rattle.course.proofs.Remembering.{known_write, written}
 use Rattle.course.proofs.machine.Machine.write.Goals as goal
 

@@ -1,5 +1,4 @@
-use Rattle.std.proofs.Common.{◌∙◌, ap}
-use Rattle.course.specs.Moves.{moves_of}
+use Rattle.course.proofs.Common.{ap, moves_of, ◌∙◌}
 use Rattle.course.proofs.Logging.{forgets}
 use Rattle.course.proofs.undo_log.UndoLog.drop_newest.Goals as goal
 

@@ -1,5 +1,4 @@
-use Rattle.std.proofs.Common.{◌∙◌, ◌+◌, ap, length, min}
-use Rattle.course.specs.Moves.{Log, moves_of}
+use Rattle.course.proofs.Common.{ap, length, Log, min, moves_of, ◌+◌, ◌∙◌}
 use Rattle.course.proofs.Logging.{length_logged}
 use Rattle.course.proofs.undo_log.UndoLog.len.Goals as goal
 

@@ -1,7 +1,4 @@
-use Rattle.std.proofs.Common.{◌∙◌, ap, List, sym}
-use Rattle.std.specs.Prelude.{slice_get}
-use Rattle.course.specs.Moves.{logged, moves_of}
-use Rattle.course.specs.declared.moves.Move.{Move}
+use Rattle.course.proofs.Common.{ap, List, logged, Move, moves_of, slice_get, sym, ◌∙◌}
 use Rattle.course.proofs.Logging.{last_first, logged_alone}
 use Rattle.course.proofs.undo_log.UndoLog.newest.Goals as goal
 

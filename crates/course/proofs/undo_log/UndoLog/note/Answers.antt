@@ -1,5 +1,4 @@
-use Rattle.std.proofs.Common.{◌∙◌}
-use Rattle.course.specs.Moves.{with_called}
+use Rattle.course.proofs.Common.{with_called, ◌∙◌}
 use Rattle.course.proofs.Logging.{amended}
 use Rattle.course.proofs.undo_log.UndoLog.note.Goals as goal
 

@@ -1,5 +1,4 @@
-use Rattle.std.proofs.Common.{◌∙◌, refl}
-use Rattle.course.specs.Moves.{placed}
+use Rattle.course.proofs.Common.{placed, refl, ◌∙◌}
 use Rattle.course.proofs.Logging.{amended}
 use Rattle.course.proofs.undo_log.UndoLog.place.Goals as goal
 

@@ -1,5 +1,4 @@
-use Rattle.std.proofs.Common.{◌∙◌, ap}
-use Rattle.course.specs.Moves.{logged, moves_of, with_move}
+use Rattle.course.proofs.Common.{ap, logged, moves_of, with_move, ◌∙◌}
 use Rattle.course.proofs.Logging.{one_more}
 use Rattle.course.proofs.undo_log.UndoLog.push.Goals as goal
 

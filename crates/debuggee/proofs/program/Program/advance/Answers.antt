@@ -1,5 +1,4 @@
-use Rattle.std.proofs.Common.{◌≡◌, ◌+◌, Some, None, ap, sym, ◌∙◌, subst}
-use Rattle.debuggee.specs.Programs.{Program, GoesQuietly, Advances}
+use Rattle.debuggee.proofs.Common.{Advances, ap, GoesQuietly, None, Program, Some, subst, sym, ◌+◌, ◌∙◌, ◌≡◌}
 use Rattle.debuggee.specs.declared.program.Advanced.TheVariants.{Owes, Meets, Lacks}
 use Rattle.debuggee.proofs.Advancing.{lacking_names_none, run_lacks, run_meets, run_owes, run_spends, spent_names_none}
 use Rattle.debuggee.proofs.Loading.{still_loadable}

@@ -1,6 +1,4 @@
-use Rattle.std.proofs.Common.{None, ap}
-use Rattle.stepping.specs.Ticks.{Debugged}
-use Rattle.debuggee.specs.Programs.{Program}
+use Rattle.debuggee.proofs.Common.{ap, Debugged, None, Program}
 use Rattle.debuggee.specs.declared.run.Run.TheVariants.{Stopped}
 use Rattle.debuggee.specs.declared.run.Why.TheVariants.{Entry}
 use Rattle.debuggee.proofs.Loading.{just_is}

@@ -1,6 +1,4 @@
-use Rattle.std.proofs.Common.{ap, ◌∙◌}
-use Rattle.stepping.specs.Ticks.{Debugged}
-use Rattle.debuggee.specs.Programs.{Program, restarted}
+use Rattle.debuggee.proofs.Common.{ap, Debugged, Program, restarted, ◌∙◌}
 use Rattle.debuggee.proofs.Loading.{anew_is, on_ok}
 use Rattle.debuggee.proofs.program.Program.restart.Goals as goal
 

@@ -1,7 +1,4 @@
-use Rattle.std.proofs.Common.{◌≡◌, ◌∙◌, ◌-◌, List, ℕ, Err, drop, take, length, sym, ap, subst, rules}
-use Rattle.std.proofs.lemmas.List.{take_rest}
-use Rattle.framing.specs.Parts.{range, before_by, waiting_in}
-use Rattle.framing.specs.Streams.{Unframed, Feeds}
+use Rattle.framing.proofs.Common.{ap, before_by, drop, Err, Feeds, length, List, range, rules, subst, sym, take, take_rest, Unframed, waiting_in, ℕ, ◌-◌, ◌∙◌, ◌≡◌}
 use Rattle.framing.proofs.Feeding.{not_broken, fault_came, piece_came}
 use Rattle.framing.proofs.Holding.{came, came_holds}
 use Rattle.framing.proofs.state.State.feed.Goals as goal

@@ -1,6 +1,4 @@
-use Rattle.std.proofs.Common.{◌∙◌, ◌≤◌, IsSome, refl, drop, take, arith, sym, subst}
-use Rattle.framing.specs.Parts.{before_by, waiting_in}
-use Rattle.framing.specs.Streams.{Unframed, fault_of}
+use Rattle.framing.proofs.Common.{arith, before_by, drop, fault_of, IsSome, refl, subst, sym, take, Unframed, waiting_in, ◌∙◌, ◌≤◌}
 use Rattle.framing.proofs.Feeding.{broken_by, fault_stays}
 use Rattle.framing.proofs.Holding.{cut_holds, waiting-take}
 use Rattle.framing.proofs.state.State.feed_faulty.Goals as goal

@@ -1,6 +1,4 @@
-use Rattle.std.proofs.Common.{◌≡◌, ◌∙◌, ◌≤◌, IsSome, Option, drop, take, ap, sym, subst, rules}
-use Rattle.framing.specs.Parts.{Holds, MarkHolds}
-use Rattle.framing.specs.Streams.{Unframed, fault_of}
+use Rattle.framing.proofs.Common.{ap, drop, fault_of, Holds, IsSome, MarkHolds, Option, rules, subst, sym, take, Unframed, ◌∙◌, ◌≡◌, ◌≤◌}
 use Rattle.framing.specs.declared.state.Mark.{Mark}
 use Rattle.framing.proofs.Feeding.{broken_by}
 use Rattle.framing.proofs.Holding.{held_by, needed}

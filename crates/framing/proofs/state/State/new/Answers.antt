@@ -1,9 +1,4 @@
-use Rattle.std.proofs.Common.{◌≡◌, ◌∙◌, List, ℕ, [], None, sym, ap, rules}
-use Rattle.framing.specs.Reading.{Reading, start_of}
-use Rattle.framing.specs.Reading.Tail.{Partial}
-use Rattle.framing.specs.Streams.{Unframed}
-use Rattle.framing.specs.declared.error.FrameError.TheVariants.{NoMemory}
-use Rattle.framing.specs.declared.start.Start.TheVariants.{Waits, Breaks}
+use Rattle.framing.proofs.Common.{[], ap, Breaks, List, NoMemory, None, Partial, Reading, rules, start_of, sym, Unframed, Waits, ℕ, ◌∙◌, ◌≡◌}
 use Rattle.framing.proofs.Readings.{starts_empty}
 use Rattle.framing.proofs.Passing.{nothing_read, nothing_whole}
 use Rattle.framing.proofs.state.State.new.Goals as goal

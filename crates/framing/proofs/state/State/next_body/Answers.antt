@@ -1,7 +1,4 @@
-use Rattle.std.proofs.Common.{◌∙◌, ◌-◌, List, ℕ, length, sym, ap, refl}
-use Rattle.framing.specs.Reading.{start_of}
-use Rattle.framing.specs.Parts.{range}
-use Rattle.framing.specs.Streams.{Unframed, first_of}
+use Rattle.framing.proofs.Common.{ap, first_of, length, List, range, refl, start_of, sym, Unframed, ℕ, ◌-◌, ◌∙◌}
 use Rattle.framing.proofs.Ends.{past_nothing}
 use Rattle.framing.proofs.Holding.{first_waits, none_waits, lent_on, lent_none}
 use Rattle.framing.proofs.state.State.next_body.Goals as goal

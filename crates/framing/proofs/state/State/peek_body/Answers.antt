@@ -1,6 +1,4 @@
-use Rattle.std.proofs.Common.{◌∙◌, List, ℕ, sym, ap}
-use Rattle.framing.specs.Parts.{range}
-use Rattle.framing.specs.Streams.{Unframed, first_of}
+use Rattle.framing.proofs.Common.{ap, first_of, List, range, sym, Unframed, ℕ, ◌∙◌}
 use Rattle.framing.proofs.Holding.{first_waits, none_waits}
 use Rattle.framing.proofs.state.State.peek_body.Goals as goal
 

@@ -1,5 +1,4 @@
-use Rattle.std.proofs.Common.{rules}
-use Rattle.framing.specs.Streams.{Feeds}
+use Rattle.framing.proofs.Common.{Feeds, rules}
 use Rattle.framing.proofs.Pasts.{taking}
 use Rattle.framing.proofs.unframer.Unframer.feed.Goals as goal
 

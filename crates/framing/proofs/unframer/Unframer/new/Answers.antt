@@ -1,5 +1,4 @@
-use Rattle.std.proofs.Common.{sym, subst}
-use Rattle.framing.specs.Streams.{Unframed, StandsFor, StandsBefore, nothing_came}
+use Rattle.framing.proofs.Common.{nothing_came, StandsBefore, StandsFor, subst, sym, Unframed}
 use Rattle.framing.proofs.Pasts.{nothing_stands, nothing_stands_before}
 use Rattle.framing.proofs.unframer.Unframer.new.Goals as goal
 

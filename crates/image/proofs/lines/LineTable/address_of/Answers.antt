@@ -1,6 +1,4 @@
-use Rattle.std.proofs.Common.{sym, ap, ◌∙◌}
-use Rattle.std.specs.Prelude.{option_map}
-use Rattle.image.specs.Lines.{start_of}
+use Rattle.image.proofs.Common.{ap, option_map, start_of, sym, ◌∙◌}
 use Rattle.image.proofs.Rows.{line_there, line_not_there, line_past_all}
 use Rattle.image.proofs.lines.LineTable.address_of.Goals as goal
 

@@ -1,5 +1,4 @@
-use Rattle.std.proofs.Common.{ap, ◌∙◌}
-use Rattle.image.specs.Lines.{Table, label_address}
+use Rattle.image.proofs.Common.{ap, label_address, Table, ◌∙◌}
 use Rattle.image.proofs.Named.{looked_up}
 use Rattle.image.proofs.lines.LineTable.label_address.Goals as goal
 

@@ -1,6 +1,4 @@
-use Rattle.std.proofs.Common.{◌≡◌, sym, ap, ◌∙◌, List, Some}
-use Rattle.std.specs.Prelude.{string_bytes, slice_get}
-use Rattle.image.specs.Lines.{Label, Table, first_greatest, up_to, labels_of}
+use Rattle.image.proofs.Common.{ap, first_greatest, Label, labels_of, List, slice_get, Some, string_bytes, sym, Table, up_to, ◌∙◌, ◌≡◌}
 use Rattle.image.proofs.Nearest.{found_below, label_of_entry, named}
 use Rattle.image.proofs.lines.LineTable.label_at.Goals as goal
 use Rattle.image.proofs.lines.LineTable.label_at.Goals.{After-as_str}

@@ -1,6 +1,4 @@
-use Rattle.std.proofs.Common.{sym, ap, ◌∙◌}
-use Rattle.std.specs.Prelude.{option_map}
-use Rattle.image.specs.Lines.{line_in}
+use Rattle.image.proofs.Common.{ap, line_in, option_map, sym, ◌∙◌}
 use Rattle.image.proofs.Rows.{covered, uncovered, past_all}
 use Rattle.image.proofs.lines.LineTable.line_of.Goals as goal
 

@@ -1,8 +1,4 @@
-use Rattle.std.proofs.Common.{rules, of_calls, ◌≡◌, sym, ◌∙◌, ap}
-use Rattle.std.specs.Prelude.{nat_le, nat_lt, find, slice_get}
-use Rattle.std.proofs.lemmas.Fn.{always_returns_same}
-use Rattle.std.proofs.lemmas.Option.{slice_get-get_or, slice_get_past}
-use Rattle.image.specs.Lines.{line_in, RowsRise, Table}
+use Rattle.image.proofs.Common.{always_returns_same, ap, find, line_in, nat_le, nat_lt, of_calls, RowsRise, rules, slice_get, slice_get-get_or, slice_get_past, sym, Table, ◌∙◌, ◌≡◌}
 use Rattle.image.proofs.Finding.{found_from_point}
 use Rattle.image.proofs.Rows.{lines_tested, le_not_lt}
 use Rattle.image.proofs.lines.LineTable.row_from.Goals as goal

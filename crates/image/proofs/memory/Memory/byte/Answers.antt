@@ -1,9 +1,4 @@
-use Rattle.std.proofs.Common.{ℕ, ◌+◌, ◌≤◌, ◌<◌, ◌/◌, ◌%◌, length, Some, sym, ap, ◌∙◌, rules, arith, subst}
-use Rattle.std.specs.Prelude.{slice_get}
-use Rattle.std.specs.declared.vec.Vec.{Vec}
-use Rattle.std.specs.declared.alloc.Global.{Global}
-use Rattle.image.specs.Memory.{byte_at}
-use Rattle.image.specs.Pages.{IsPage, page_bytes}
+use Rattle.image.proofs.Common.{ap, arith, byte_at, Global, IsPage, length, page_bytes, rules, slice_get, Some, subst, sym, Vec, ℕ, ◌%◌, ◌+◌, ◌/◌, ◌<◌, ◌∙◌, ◌≤◌}
 use Rattle.image.proofs.Flat.{get_there, page_at, zero_at}
 use Rattle.image.proofs.Places.{lies, place_of}
 use Rattle.image.proofs.Reading.{byte_inside, byte_outside, has_all, is_blank}

@@ -1,8 +1,4 @@
-use Rattle.std.proofs.Common.{ℕ, ◌+◌, ◌≤◌, ◌<◌, ◌/◌, ◌%◌, length, take, drop, Ok, sym, ap, ◌∙◌, rules, arith, subst}
-use Rattle.image.specs.Memory.{fault_at, little_endian, unless_fault, halfword_at, bytes_at}
-use Rattle.image.specs.Pages.{IsPage, page_bytes}
-use Rattle.std.specs.declared.vec.Vec.{Vec}
-use Rattle.std.specs.declared.alloc.Global.{Global}
+use Rattle.image.proofs.Common.{ap, arith, bytes_at, drop, fault_at, Global, halfword_at, IsPage, length, little_endian, Ok, page_bytes, rules, subst, sym, take, unless_fault, Vec, ℕ, ◌%◌, ◌+◌, ◌/◌, ◌<◌, ◌∙◌, ◌≤◌}
 use Rattle.image.proofs.Flat.{page_at}
 use Rattle.image.proofs.Places.{lies, place_of}
 use Rattle.image.proofs.Reading.{blank_number, has_all, is_blank, number_inside, outside_pages}

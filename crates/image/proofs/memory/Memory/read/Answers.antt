@@ -1,5 +1,4 @@
-use Rattle.std.proofs.Common.{◌+◌, ◌*◌, ◌≤◌, ◌<◌, length, sym, ap, ◌∙◌, rules, arith}
-use Rattle.image.specs.Memory.{bytes_at, fault_at, memory_after, unless_fault}
+use Rattle.image.proofs.Common.{ap, arith, bytes_at, fault_at, length, memory_after, rules, sym, unless_fault, ◌*◌, ◌+◌, ◌<◌, ◌∙◌, ◌≤◌}
 use Rattle.image.proofs.Places.{place_of}
 use Rattle.image.proofs.Reading.{outside}
 use Rattle.image.proofs.memory.Memory.read.Goals as goal

@@ -1,9 +1,4 @@
-use Rattle.std.proofs.Common.{ℕ, ◌+◌, ◌≤◌, ◌<◌, ◌/◌, ◌%◌, length, Ok, sym, ap, ◌∙◌, rules, arith, subst}
-use Rattle.std.specs.declared.vec.Vec.{Vec}
-use Rattle.std.specs.declared.alloc.Global.{Global}
-use Rattle.std.specs.Prelude.{slice_set}
-use Rattle.image.specs.Memory.{fault_at, NeedsPage, WritesOrLacks}
-use Rattle.image.specs.Pages.{IsPage, flat}
+use Rattle.image.proofs.Common.{ap, arith, fault_at, flat, Global, IsPage, length, NeedsPage, Ok, rules, slice_set, subst, sym, Vec, WritesOrLacks, ℕ, ◌%◌, ◌+◌, ◌/◌, ◌<◌, ◌∙◌, ◌≤◌}
 use Rattle.image.proofs.Flat.{page_at}
 use Rattle.image.proofs.Places.{lies, place_of}
 use Rattle.image.proofs.Reading.{outside_pages}

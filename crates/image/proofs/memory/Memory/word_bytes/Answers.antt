@@ -1,8 +1,4 @@
-use Rattle.std.proofs.Common.{ℕ, ◌+◌, ◌≤◌, ◌<◌, ◌/◌, ◌%◌, length, take, drop, Ok, sym, ap, ◌∙◌, rules, arith, subst}
-use Rattle.image.specs.Memory.{fault_at, unless_fault, bytes_at}
-use Rattle.image.specs.Pages.{IsPage, page_bytes}
-use Rattle.std.specs.declared.vec.Vec.{Vec}
-use Rattle.std.specs.declared.alloc.Global.{Global}
+use Rattle.image.proofs.Common.{ap, arith, bytes_at, drop, fault_at, Global, IsPage, length, Ok, page_bytes, rules, subst, sym, take, unless_fault, Vec, ℕ, ◌%◌, ◌+◌, ◌/◌, ◌<◌, ◌∙◌, ◌≤◌}
 use Rattle.image.proofs.Flat.{page_at}
 use Rattle.image.proofs.Places.{lies, place_of}
 use Rattle.image.proofs.Reading.{blank_part, has_all, is_blank, bytes_inside, outside_pages}

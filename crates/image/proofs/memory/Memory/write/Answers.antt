@@ -1,7 +1,5 @@
-use Rattle.std.proofs.Common.{◌≡◌, ◌+◌, ◌-◌, ◌*◌, ◌/◌, ◌≤◌, ◌<◌, length, Ok, sym, ap, ◌∙◌, rules, arith, subst}
+use Rattle.image.proofs.Common.{ap, arith, fault_at, flat, LacksOne, length, NeedsPage, Ok, put, rules, subst, sym, WritesOrLacks, ◌*◌, ◌+◌, ◌-◌, ◌/◌, ◌<◌, ◌∙◌, ◌≡◌, ◌≤◌}
 use Rattle.std.specs.Int.{div_ceil}
-use Rattle.image.specs.Memory.{fault_at, NeedsPage, WritesOrLacks}
-use Rattle.image.specs.Pages.{flat, put, LacksOne}
 use Rattle.image.proofs.Places.{lies_at, lies_low, place_of}
 use Rattle.image.proofs.Reading.{no_fault, outside}
 use Rattle.image.proofs.Tables.{lacks, still_whole}

@@ -1,5 +1,4 @@
-use Rattle.std.proofs.Common.{rules}
-use Rattle.std.proofs.lemmas.Int.{to_z-of_z}
+use Rattle.message_parts.proofs.Common.{rules, to_z-of_z}
 use mir.Syntax.{w32}
 use mir.Val.{SFits}
 use Rattle.message_parts.proofs.Appending.{object_written}

@@ -1,9 +1,6 @@
-use Rattle.std.proofs.Common.{ℕ, List, ◌<◌, ◌≤◌, ◌≡◌, ◌^◌, Some, refl, sym, ap, ◌∙◌, arith, length, map}
-use Rattle.std.specs.Prelude.{option_map}
+use Rattle.mirror.proofs.Common.{ap, arith, at, frame_of, length, List, map, option_map, over, refl, Some, sym, ℕ, ◌<◌, ◌^◌, ◌∙◌, ◌≡◌, ◌≤◌}
 use Rattle.std.proofs.lemmas.List.{length-map}
 use Rattle.std.proofs.lemmas.Option.{slice_get-map, slice_get_read}
-use Rattle.mirror.specs.Folding.{frame_of, over}
-use Rattle.mirror.specs.Kept.{at}
 use Rattle.facts.specs.declared.frame.FrameInfo.{FrameInfo}
 use Rattle.mirror.proofs.Maps.{place_next, upto_last, upto_none, upto_step, upto_whole}
 use Rattle.mirror.proofs.frames.Frames.tell.Goals as goal

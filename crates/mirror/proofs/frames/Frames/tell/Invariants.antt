@@ -1,6 +1,4 @@
-use Rattle.std.proofs.Common.{◌≡◌, ℕ, ◌+◌, map}
-use Rattle.mirror.specs.Folding.{frame_of, upto}
-use Rattle.mirror.specs.Kept.{PlaceIs, at}
+use Rattle.mirror.proofs.Common.{at, frame_of, map, PlaceIs, upto, ℕ, ◌+◌, ◌≡◌}
 use Rattle.mirror.proofs.frames.Frames.tell.Given as goal
 
 -- the frames so far are told

@@ -1,7 +1,5 @@
-use Rattle.std.proofs.Common.{ℕ, List, ◌<◌, ◌^◌, ap, ◌∙◌, arith}
+use Rattle.mirror.proofs.Common.{ap, arith, at, List, over, ℕ, ◌<◌, ◌^◌, ◌∙◌}
 use Rattle.std.proofs.lemmas.Option.{slice_get-get_or}
-use Rattle.mirror.specs.Folding.{over}
-use Rattle.mirror.specs.Kept.{at}
 use Rattle.mirror.proofs.Maps.{place_next, upto_last, upto_none, upto_step, upto_whole}
 use Rattle.mirror.proofs.memory.Memory.tell.Goals as goal
 

@@ -1,6 +1,4 @@
-use Rattle.std.proofs.Common.{◌≡◌, ℕ, ◌+◌}
-use Rattle.mirror.specs.Folding.{upto}
-use Rattle.mirror.specs.Kept.{PlaceIs, at}
+use Rattle.mirror.proofs.Common.{at, PlaceIs, upto, ℕ, ◌+◌, ◌≡◌}
 use Rattle.mirror.proofs.memory.Memory.tell.Given as goal
 
 -- the bytes so far are told

@@ -1,6 +1,4 @@
-use Rattle.std.proofs.Common.{◌≡◌, take}
-use Rattle.mirror.specs.Folding.{after_variables}
-use Rattle.mirror.specs.Kept.{register_in}
+use Rattle.mirror.proofs.Common.{after_variables, register_in, take, ◌≡◌}
 use Rattle.mirror.proofs.registers.Registers.tell.Given as goal
 
 -- the variables so far are told

@@ -1,5 +1,4 @@
-use Rattle.std.proofs.Common.{ap, rules, ◌∙◌}
-use Rattle.std.specs.Prelude.{bytes_eq, filter, not}
+use Rattle.mirror.proofs.Common.{ap, bytes_eq, filter, not, rules, ◌∙◌}
 use Rattle.std.proofs.lemmas.Fn.{filter_same}
 use Rattle.mirror.proofs.sources.Sources.drop_list.Goals as goal
 

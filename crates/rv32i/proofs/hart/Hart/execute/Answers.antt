@@ -1,5 +1,4 @@
-use Rattle.std.proofs.Common.{subst}
-use Rattle.rv32i.specs.Machine.{IsDecodedAtPc, machine_of}
+use Rattle.rv32i.proofs.Common.{IsDecodedAtPc, machine_of, subst}
 use Rattle.rv32i.proofs.Moves.{carried}
 use Rattle.rv32i.proofs.hart.Hart.execute.Goals as goal
 

@@ -1,10 +1,4 @@
-use Rattle.std.proofs.Common.{◌≡◌, Some, drop, map}
-use Rattle.std.specs.Prelude.{filter_map}
-use Rattle.breakpoints.specs.Stops.{log_at}
-use Rattle.debuggee.specs.Programs.{Program}
-use Rattle.handlers.specs.Telling.{log_event}
-use Rattle.session.specs.Kept.{drafted_all}
-use Rattle.session.specs.Slices.{logged}
+use Rattle.session.proofs.Common.{drafted_all, drop, filter_map, log_at, log_event, logged, map, Program, Some, ◌≡◌}
 use Rattle.session.proofs.state.State.add_logs.Given as goal
 
 abbrev pub invariant-loop-place : goal.invariant-loop-place

@@ -1,7 +1,5 @@
-use Rattle.std.proofs.Common.{◌≡◌, Some, ap, sym, ◌∙◌, arith}
+use Rattle.session.proofs.Common.{ap, arith, Debugged, Kept, Some, sym, ◌∙◌, ◌≡◌}
 use Rattle.stepping.specs.Goals.{turns_back}
-use Rattle.stepping.specs.Ticks.{Debugged}
-use Rattle.session.specs.Kept.{Kept}
 use Rattle.session.proofs.Advancing.{HasLeft, advances_so, the_free_one}
 use Rattle.session.proofs.Told.{with_one}
 use Rattle.session.proofs.state.State.advance.Goals as goal

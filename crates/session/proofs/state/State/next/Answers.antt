@@ -1,8 +1,4 @@
-use Rattle.std.proofs.Common.{◌≡◌, Some, ap, sym, ◌∙◌, subst}
-use Rattle.debuggee.specs.declared.run.Why.{Why}
-use Rattle.session.specs.Beats.{Decides}
-use Rattle.session.specs.Kept.{Kept}
-use Rattle.session.specs.Slices.{is_runnable_by}
+use Rattle.session.proofs.Common.{ap, Decides, is_runnable_by, Kept, Some, subst, sym, Why, ◌∙◌, ◌≡◌}
 use Rattle.session.specs.declared.slices.Next.TheVariants.{Stop}
 use Rattle.session.proofs.Deciding.{marks_there, checks_there, limits_there, free_there, room_of}
 use Rattle.session.proofs.state.State.next.Goals as goal

@@ -1,6 +1,4 @@
-use Rattle.std.proofs.Common.{subst, sym}
-use Rattle.session.specs.Beats.{Stretches}
-use Rattle.session.specs.declared.slices.Step.{Step}
+use Rattle.session.proofs.Common.{Step, Stretches, subst, sym}
 use Rattle.session.proofs.Stretching.{lacks_stopping}
 use Rattle.session.proofs.state.State.step_stopping.Goals as goal
 

@@ -1,6 +1,4 @@
-use Rattle.std.proofs.Common.{◌+◌, ltb, sym, subst}
-use Rattle.session.specs.declared.slices.Step.{Step}
-use Rattle.session.specs.Beats.{Decides, Stretches}
+use Rattle.session.proofs.Common.{Decides, ltb, Step, Stretches, subst, sym, ◌+◌}
 use Rattle.session.specs.declared.slices.Next.{Next}
 use Rattle.session.proofs.Stretching.{ends_there, is_left}
 use Rattle.session.proofs.state.State.stretch.Goals as goal

@@ -1,8 +1,5 @@
-use Rattle.std.proofs.Common.{sym, ap, ◌∙◌}
+use Rattle.session.proofs.Common.{ap, first_pending, Kept, run_of, sym, ◌∙◌}
 use Rattle.std.specs.Option.{option_copied}
-use Rattle.queues.specs.Arrivals.{first_pending}
-use Rattle.handlers.specs.Demands.{run_of}
-use Rattle.session.specs.Kept.{Kept}
 use Rattle.session.proofs.Wanting.{wants_first}
 use Rattle.session.proofs.state.State.wants_file.Goals as goal
 

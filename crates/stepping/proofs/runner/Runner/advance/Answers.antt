@@ -1,7 +1,4 @@
-use Rattle.std.proofs.Common.{◌≡◌, ◌<◌, ◌≤◌, ◌+◌, ◌^◌, false, ℕ, sym, ap, ◌∙◌, subst, arith}
-use Rattle.stepping.specs.Bursts.{Ends, moved_by}
-use Rattle.stepping.specs.Goals.{turns_back}
-use Rattle.stepping.specs.Ticks.{Debugged}
+use Rattle.stepping.proofs.Common.{ap, arith, Debugged, Ends, false, moved_by, subst, sym, turns_back, ℕ, ◌+◌, ◌<◌, ◌^◌, ◌∙◌, ◌≡◌, ◌≤◌}
 use Rattle.stepping.specs.contracts.runner.Runner as runner
 use Rattle.stepping.proofs.Bursting.{arrived, arrives_none, arrives_some, bursts_end}
 use Rattle.stepping.proofs.Counting.{arrives_counted, not_deeper}

@@ -1,7 +1,4 @@
-use Rattle.std.proofs.Common.{◌-◌, Option, ap, ◌∙◌, subst, arith}
-use Rattle.stepping.specs.Goals.{turns_back}
-use Rattle.stepping.specs.Running.{Stretches}
-use Rattle.stepping.specs.declared.tick.RunEnd.{RunEnd}
+use Rattle.stepping.proofs.Common.{ap, arith, Option, RunEnd, Stretches, subst, turns_back, ◌-◌, ◌∙◌}
 use Rattle.stepping.proofs.Going.{all_went, ends_run, goes_goal, goes_on, goes_retire, run_retires}
 use Rattle.stepping.proofs.runner.Runner.go.Goals as goal
 

@@ -1,5 +1,4 @@
-use Rattle.std.proofs.Common.{◌≡◌, ◌≤◌, ◌-◌}
-use Rattle.stepping.specs.Runs.{Goes}
+use Rattle.stepping.proofs.Common.{Goes, ◌-◌, ◌≡◌, ◌≤◌}
 use Rattle.stepping.proofs.runner.Runner.go_back.Given as goal
 
 abbrev pub invariant-loop-went : goal.invariant-loop-went

@@ -1,19 +1,10 @@
-use Rattle.std.proofs.Common.{◌≡◌, ◌≢◌, ℕ, ◌+◌, false, None, Result, Ok, sym, ap, ◌∙◌, subst}
-use Rattle.std.specs.declared.alloc.AllocError.{AllocError}
-use Rattle.rv32i.specs.declared.stepped.Stepped.{Stepped}
-use Rattle.course.specs.Positions.{Course, Halts, past_after, position_at}
-use Rattle.stepping.specs.Goals.{turns_back}
-use Rattle.stepping.specs.Plain.{plain_tick}
-use Rattle.stepping.specs.Running.{AreCounted, counted_by, left_by}
-use Rattle.stepping.specs.Runs.{MayLackMemory}
-use Rattle.stepping.specs.Ticks.{Debugged, IsTick, position_of, settled, tick_of}
+use Rattle.stepping.proofs.Common.{AllocError, ap, AreCounted, counted_by, Course, Debugged, false, Halts, IsTick, left_by, MayLackMemory, None, Ok, past_after, plain_tick, position_at, position_of, Result, settled, Stepped, subst, sym, Tick, tick_of, turns_back, ℕ, ◌+◌, ◌∙◌, ◌≡◌, ◌≢◌}
 use Rattle.stepping.specs.contracts.runner.Runner as runner
-use Rattle.stepping.specs.declared.tick.Tick.{Tick}
 use Rattle.stepping.proofs.Counting.{counts_alike, settled_counts}
 use Rattle.stepping.proofs.Halting.{at_pc, counted_at, halt_settles, left_settled, tick_counted}
 use Rattle.stepping.proofs.runner.Runner.halted.Goals as goal
 
--- where a course stands, with so many more that have retired
+-- where a course stands, with this many retired in all
 abbrev standing : Course → ℕ → Debugged → Debugged
 standing c n d = record d { hart = c.now.hart; memory = c.now.memory; calls = c.now.calls; past = c.past; retired = n }
 

@@ -1,9 +1,6 @@
-use Rattle.std.proofs.Common.{◌≡◌, false, sym, ap, ◌∙◌}
+use Rattle.stepping.proofs.Common.{ap, Debugged, false, Hart, hit_at_pc, Lists, sym, with_check, ◌∙◌, ◌≡◌}
 use Rattle.breakpoints.specs.Places.{is_among}
-use Rattle.breakpoints.specs.Stops.{Lists}
 use Rattle.breakpoints.proofs.Lists.{no_check, no_hit}
-use Rattle.rv32i.specs.declared.hart.Hart.{Hart}
-use Rattle.stepping.specs.Ticks.{Debugged, hit_at_pc, with_check}
 use Rattle.stepping.specs.contracts.runner.Runner as runner
 use Rattle.stepping.proofs.runner.Runner.hit.Goals as goal
 

@@ -1,9 +1,4 @@
-use Rattle.std.proofs.Common.{◌≡◌, true, sym, ap, ◌∙◌, subst, arith}
-use Rattle.stepping.specs.Bursts.{Ends}
-use Rattle.stepping.specs.Goals.{turns_back}
-use Rattle.stepping.specs.Running.{Stretches}
-use Rattle.stepping.specs.Ticks.{Debugged}
-use Rattle.stepping.specs.declared.burst.BurstEnd.{BurstEnd}
+use Rattle.stepping.proofs.Common.{ap, arith, BurstEnd, Debugged, Ends, Stretches, subst, sym, true, turns_back, ◌∙◌, ◌≡◌}
 use Rattle.stepping.specs.declared.running.Stretch.{Stretch}
 use Rattle.stepping.proofs.Going.{entry_stretches, goes_goal, goes_retire, halted_stretches, moved_stretches}
 use Rattle.stepping.proofs.runner.Runner.stretch.Goals as goal

@@ -1,8 +1,6 @@
-use Rattle.std.proofs.Common.{◌≡◌, ◌-◌, ◌<◌, length, sym, subst, arith}
+use Rattle.stepping.proofs.Common.{AreCounted, arith, Course, Debugged, length, subst, sym, UndoNeedsPage, ◌-◌, ◌<◌, ◌≡◌}
 use Rattle.course.proofs.Making.{on_err}
-use Rattle.course.specs.Positions.{Course, UndoNeedsPage, gone_back}
-use Rattle.stepping.specs.Running.{AreCounted}
-use Rattle.stepping.specs.Ticks.{Debugged}
+use Rattle.course.specs.Positions.{gone_back}
 use Rattle.stepping.proofs.Counting.{some_retired, undone_counts}
 use Rattle.stepping.proofs.runner.Runner.undo.Goals as goal
 

@@ -1,6 +1,4 @@
-use Rattle.std.proofs.Common.{sym, subst}
-use Rattle.course.specs.Positions.{Course}
-use Rattle.stepping.specs.Running.{AreCounted}
+use Rattle.stepping.proofs.Common.{AreCounted, Course, subst, sym}
 use Rattle.stepping.proofs.Counting.{written_counts}
 use Rattle.stepping.proofs.runner.Runner.write.Goals as goal
 

@@ -1,6 +1,4 @@
-use Rattle.std.proofs.Common.{sym, ap, subst, ◌∙◌, take}
-use Rattle.framing.specs.Streams.{fed}
-use Rattle.transport.specs.Heard.{HasRead}
+use Rattle.transport.proofs.Common.{ap, fed, HasRead, subst, sym, take, ◌∙◌}
 use Rattle.transport.proofs.ServerLemmas.{feeds}
 use Rattle.transport.proofs.inbox.Inbox.feed.Goals as goal
 

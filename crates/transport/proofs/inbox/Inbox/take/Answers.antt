@@ -1,5 +1,4 @@
-use Rattle.std.proofs.Common.{sym, ap, subst, ◌∙◌, take}
-use Rattle.transport.specs.Heard.{Unread, HasRead}
+use Rattle.transport.proofs.Common.{ap, HasRead, subst, sym, take, Unread, ◌∙◌}
 use Rattle.transport.proofs.ServerLemmas.{polls, emptied}
 use Rattle.transport.proofs.inbox.Inbox.take.Goals as goal
 

@@ -1,5 +1,4 @@
-use Rattle.std.proofs.Common.{length}
-use Rattle.transport.specs.Outbox.{SendsPrefix}
+use Rattle.transport.proofs.Common.{length, SendsPrefix}
 use Rattle.transport.proofs.outbox.Outbox.send_all.Given as goal
 
 -- what was written so far is a prefix of what waited

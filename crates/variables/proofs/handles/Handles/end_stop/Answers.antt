@@ -1,5 +1,4 @@
-use Rattle.std.proofs.Common.{ap}
-use Rattle.variables.specs.Numbers.{Numbers}
+use Rattle.variables.proofs.Common.{ap, Numbers}
 use Rattle.variables.proofs.Standing.{ended_by}
 use Rattle.variables.proofs.handles.Handles.end_stop.Goals as goal
 

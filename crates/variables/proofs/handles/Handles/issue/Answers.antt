@@ -1,7 +1,4 @@
-use Rattle.std.proofs.Common.{◌≡◌, ◌≤◌, ◌+◌, true, ap, sym, subst, ◌∙◌, rules, List, map}
-use Rattle.std.specs.List.{All}
-use Rattle.variables.specs.Numbers.{Numbers, has, number_from, with_all}
-use Rattle.variables.specs.declared.target.Target.{Target}
+use Rattle.variables.proofs.Common.{All, ap, has, List, map, number_from, Numbers, rules, subst, sym, Target, true, with_all, ◌+◌, ◌∙◌, ◌≡◌, ◌≤◌}
 use Rattle.variables.proofs.Standing.{all_issued, no_memory, none_issued}
 use Rattle.variables.proofs.Targets.{all_there}
 use Rattle.variables.proofs.handles.Handles.issue.Goals as goal

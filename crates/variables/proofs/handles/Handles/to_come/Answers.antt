@@ -1,7 +1,4 @@
-use Rattle.std.proofs.Common.{◌≡◌, ◌+◌, ◌≤◌, ◌∙◌, true, sym, ap, subst, arith, length, List}
-use Rattle.std.specs.List.{All}
-use Rattle.variables.specs.Numbers.{has, with_all}
-use Rattle.variables.specs.declared.target.Target.{Target}
+use Rattle.variables.proofs.Common.{All, ap, arith, has, length, List, subst, sym, Target, true, with_all, ◌+◌, ◌∙◌, ◌≡◌, ◌≤◌}
 use Rattle.variables.proofs.Targets.{all_there, with_all-short}
 use Rattle.variables.proofs.handles.Handles.to_come.Goals as goal
 

@@ -1,5 +1,4 @@
-use Rattle.std.proofs.Common.{ap, ◌∙◌}
-use Rattle.framing.specs.Streams.{Unframed}
+use Rattle.watch_command.proofs.Common.{ap, Unframed, ◌∙◌}
 use Rattle.watch_command.proofs.Spoken.{telling_last, telling_more}
 use Rattle.watch_command.proofs.knowing.Knowing.add_messages.Goals as goal
 

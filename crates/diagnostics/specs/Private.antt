@@ -1,0 +1,4 @@
+-- What private clauses alone cite: how the code works. No statement of a public call needs any of it.
+
+-- what a step of a pass does
+pub mod Steps

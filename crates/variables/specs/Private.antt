@@ -1,0 +1,3 @@
+-- What private clauses alone cite: how the code works. No statement of a public call needs any of it.
+
+pub mod Stack
