@@ -188,16 +188,53 @@ def sources(crate):
     return sorted(glob.glob(os.path.join(TOP, "crates", crate, "src", "**", "*.rt"), recursive=True))
 
 
+def heads_in(path):
+    """The public functions of a file, each with its type, which may be empty, its name, its signature and its clauses."""
+    owner = ""
+    for impl, inner, name, head in re.findall(
+            r"^impl(?:<[^\n]*>)? (?:[^\n]* for )?(\w+)|^( *)pub (?:const )?fn (\w+)(.*?)(?=^ *\{| \{$)", text_of(path), re.M | re.S):
+        owner = impl or owner
+        if name:
+            signature, *clauses = re.split(r"^ *(?=ensures|requires)", head, flags=re.M)
+            yield owner if inner else "", name, signature, clauses
+
+
 def heads(crate):
     """The public functions of a crate, those of a type with its name, each with its signature and its clauses."""
     for path in sources(crate):
-        owner = ""
-        for impl, inner, name, head in re.findall(
-                r"^impl(?:<[^\n]*>)? (?:[^\n]* for )?(\w+)|^( *)pub (?:const )?fn (\w+)(.*?)(?=^ *\{| \{$)", text_of(path), re.M | re.S):
-            owner = impl + "::" if impl else owner
-            if name:
-                signature, *clauses = re.split(r"^ *(?=ensures|requires)", head, flags=re.M)
-                yield (owner if inner else "") + name, signature, clauses
+        for owner, name, signature, clauses in heads_in(path):
+            yield (owner + "::" if owner else "") + name, signature, clauses
+
+
+def is_offered(crate, path, name):
+    """Whether a crate offers a name of one of its files."""
+    library = os.path.join(TOP, "crates", crate, "src", "lib.rt")
+    offers = text_of(library) if os.path.exists(library) else ""
+    module = os.path.splitext(os.path.basename(path))[0]
+    return f"pub mod {module};" in offers or any(name in re.findall(r"\w+", listed) for listed in re.findall(r"^pub use ([^;]*);", offers, re.M))
+
+
+def private_names(path):
+    """By what names a file of code cites what stands in specs/Private."""
+    cited = re.findall(r"^ *ghost use Rattle\.\w+\.specs\.Private\.\w+(?:\.\{([^}]*)\}| as (\w+));", text_of(path), re.M)
+    return {item.split()[-1] for listed, alias in cited for item in (alias or listed).split(",") if item.strip()}
+
+
+def what_private_clauses_cite_stands_apart():
+    """No clause of a function that a crate offers cites what stands in specs/Private, and no definition outside it."""
+    apart = 0
+    for path in sorted(glob.glob(os.path.join(TOP, "crates", "*", "specs", "**", "*.antt"), recursive=True)):
+        if "/Private/" in path:
+            apart += 1
+        else:
+            expect(re.findall(r"^(?:pub )?use .*\.specs\.Private\b.*", text_of(path), re.M), [], "%s: what it cites of specs/Private" % path)
+    expect(apart > 20, True, "definitions stand in specs/Private")
+    for crate in all_crates():
+        for path in sources(crate):
+            names = private_names(path)
+            for owner, function, _, clauses in heads_in(path) if names else ():
+                cited = names & set(re.findall(r"\w+", " ".join(clauses)))
+                expect(bool(cited) and is_offered(crate, path, owner or function), False, "%s: %s cites %s" % (path, function, ", ".join(sorted(cited))))
 
 
 def each_clause_stands_in_the_ledger():
@@ -340,6 +377,7 @@ def checks():
         the_picture_has_each_crate_above_those_it_stands_on,
         each_rule_of_the_map_has_names_that_differ,
         each_clause_stands_in_the_ledger,
+        what_private_clauses_cite_stands_apart,
         calls_that_may_lack_memory_are_listed,
         each_definition_of_the_table_of_crates_is_in_its_file,
         the_places_of_requests_are_found,

@@ -355,7 +355,8 @@ def help_and_version_are_printed():
 
 def help_says_what_to_do_without_a_command():
     out = run(b"", words=["--help"])[0]
-    for words in (b"Usage: rvdap [--memory <KIB>]", b"rvdap --listen <ADDR> [--program <FILE>] [--once]", b"rvdap asm <FILE>", b"rvdap watch <SCRIPT> [<C> [<N>]]", b"rvdap replay [--from <N>] [--to <N>] [--facts] <SCRIPT>",
+    for words in (b"Usage: rvdap [--memory <KIB>]", b"rvdap --listen <ADDR> [--program <FILE>] [--once]", b"rvdap asm <FILE>", b"rvdap watch <SCRIPT> [<C> [<N>]]",
+                  b"rvdap replay [--from <N>] [--to <N>] [--facts] <SCRIPT>",
                   b"rvdap run [--memory <KIB>] [--limit <N>] [--output-limit <BYTES>]", b"[--count] [--registers] [--trace <N>] <FILE>..", b"rvdap check [--json] <FILE>..", b"rvdap labels [--json] <FILE>",
                   b"  --memory <KIB>     Memory of a program", b"  --listen <ADDR> ", b"  --program <FILE> ", b"  --once ", b"  asm      Assembles FILE", b"  watch    Plays SCRIPT",
                   b"  run      Runs the program", b"  check    Tells the errors", b"  labels   Tells the labels", b"  convert  Writes the program",

@@ -7,7 +7,8 @@ ROWS = {
     'write_message, read_message, Response::error': 'messages: "a name as long as a body lets it be, of letters"; events: "output of 1,000,000 bytes"',
     'Response::success, ack': 'messages: "texts of the answers with the greatest numbers"',
     'Session::recv': 'session: "with 256 requests that wait no piece is taken", "a piece has at most 65,536 bytes"',
-    'Session::turn': 'session: "above 65,536 waiting bytes no request is answered"; session_runs: "the greatest program"; session_breaks: "1,024 breakpoints of each kind"; session_looks: "4,096 instructions, and one more", "65,536 bytes, and one more"',
+    'Session::turn': 'session: "above 65,536 waiting bytes no request is answered"; session_runs: "the greatest program"; session_breaks: "1,024 breakpoints of each kind"; '
+                     'session_looks: "4,096 instructions, and one more", "65,536 bytes, and one more"',
     'Session::new, slice': 'session_runs: "the greatest program", "the most moves"; session_breaks: "1,024 breakpoints of each kind"',
     'Session::apply': 'session: "an event that is applied is its call"',
     'Session::snapshot, Memory::copied, Name::of': 'session_seen: "what is to be seen at a breakpoint"',
