@@ -9,7 +9,7 @@ wants = @command -v $(1) > /dev/null || { echo "make: $(1) is absent: $(2)" >&2;
 # What gives the program: the proofs, or, where there is no rt, that it was built before.
 PROGRAM_BY = $(if $(shell command -v rt 2> /dev/null),build,built)
 
-.PHONY: run build test check docs bench soak install dist clean built toolchain compiler python
+.PHONY: run build test check rows docs bench soak install dist clean built toolchain compiler python
 
 # Debugs an example: plays a session into the program as an editor would, and prints what each request gives.
 run: python $(PROGRAM_BY)
@@ -29,6 +29,10 @@ test: toolchain compiler python
 # Proves one crate over what is proved below it, or of it the functions whose path has a word: make check CRATE=framing ONLY=unframer
 check: toolchain
 	cd crates/$(CRATE) && rt check $(if $(ONLY),--only $(ONLY))
+
+# Plays the tables of tests/rows, on the players that an earlier run left.
+rows: python
+	tests/run --no-gate rows
 
 # Makes the transcripts in the pages anew, and holds the pages against the code.
 docs: python $(PROGRAM_BY)
