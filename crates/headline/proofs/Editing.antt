@@ -1,190 +1,89 @@
 -- An editor tells its mirror requests and feeds it bytes, in turn: the facts are those of the whole messages among these bytes.
-use Rattle.headline.proofs.Common.{[], All, All-cons, All-head, All-nil, All-tail, answered, ap, append-nil, append_assoc, arith, Ask, Asked, asked_of, Bad, Bool, bytes_of, cond, Done, drop, eqb, Facts, false, first_asked, fold, folded, frame_said, inl, inr, kept_first, known_after, leb, length, length-append, Life, List, map, map-append, Message, nat_tests, None, nothing_known, Option, refl, Refused, remembered, Request as ARequest, Response as IsResponse, Said, Some, subst, sym, take, take-append-drop, told_of, told_within, true, ℕ, ◌++◌, ◌+◌, ◌-◌, ◌<◌, ◌∙◌, ◌∷◌, ◌≡◌, ◌≤◌, ◌⊎◌}
-use Rattle.std.proofs.Common.{option_map}
-use Rattle.std.proofs.Math.Seq.{drop-append_seam}
-use Rattle.mirror.proofs.Lawful.{inputs_make_pasts}
-use Rattle.mirror.specs.Streams.{Input, Past, after, messages_so_far, newly_whole, stream_fault}
+use Rattle.headline.proofs.Common.{[], All, All-head, All-nil, All-tail, ap, append-nil, append_assoc, arith, Ask, Asked, asked_of, Bad, Bool, bytes_of, cond, cond-false, cond-true, drop, eqb, Facts, false, first_asked, fold, folded, frame_said, get_or, if_keeps, inl, inr, IsEvent, kept_first, known_after, le-leb, leb, leb-true, length, length-append, Life, List, lt-leb, map, map-append, Message, None, nothing_known, Option, option_map, option_or, refl, remembered, Request as ARequest, Response as IsResponse, Said, Some, subst, sym, take, take-append-drop, told, told_of, told_within, true, ℕ, ◌++◌, ◌-◌, ◌∙◌, ◌∷◌, ◌≡◌, ◌≤◌, ◌⊎◌}
+use Rattle.std.proofs.Math.Seq.{drop-append_seam, take-append_seam}
+use Rattle.mirror.specs.Streams.{Input, Past, after, after_input, messages_so_far, newly_whole, nothing_past, stream_fault, with_piece, with_request}
 use Rattle.mirror.specs.Streams.Input.{Sent, Fed}
-use Rattle.replies.specs.declared.message.Message.TheVariants.{Event as IsEvent}
-use Rattle.replies.specs.declared.response.Outcome.{Outcome}
-use Rattle.session.specs.Kinds.{is_success}
 use Rattle.session.specs.Prefixes.{IsPrefixOf}
 use Rattle.queues.specs.declared.pending.Ask.TheVariants.{Request}
-use Rattle.headline.proofs.Readable.{IsReadable, framed_some, has_no_fault, messages_within}
-use Rattle.headline.proofs.Remembering.{refused_tells}
 use Rattle.headline.specs.Editors.{AreTold, IsEditor, IsTold, fed_in, first_told, requests_in, sent_in, told_first}
 use Rattle.headline.specs.Headline.{known_within}
+use Rattle.headline.proofs.Remembering.{answers_same, known_append}
+use Rattle.headline.proofs.Readable.{framed_some, has_no_fault, IsReadable, messages_within}
 
 -- ---- lists
 
--- what holds of no input, and is kept by one more, holds of all lists of inputs
-module _ (P : List Input → Type 0) (more : (inputs : List Input) (input : Input) → P inputs → P (inputs ++ input ∷ [])) where
-  and_these : (inputs others : List Input) → P inputs → P (inputs ++ others)
-  and_these inputs [] h = subst P (sym (append-nil inputs)) h
-  and_these inputs (i ∷ others) h =
-      subst P (append_assoc inputs (i ∷ []) others) (and_these (inputs ++ i ∷ []) others (more inputs i h))
-
-  of_each : (inputs : List Input) → P [] → P inputs
-  of_each inputs h = and_these [] inputs h
-
-later_hold : {A : Type 0} (P : A → Type 0) (xs ys : List A) → All P (xs ++ ys) → All P ys
+pub later_hold : {A : Type 0} (P : A → Type 0) (xs ys : List A) → All P (xs ++ ys) → All P ys
 later_hold P [] ys h = h
 later_hold P (x ∷ xs) ys h = later_hold P xs ys (All-tail P x (xs ++ ys) h)
-
-take_seam : (xs ys : List ℕ) → take (length xs) (xs ++ ys) ≡ xs
-take_seam [] ys = none ys where
-  none : (l : List ℕ) → take 0 l ≡ []
-  none [] = refl
-  none (y ∷ l) = refl
-take_seam (x ∷ xs) ys = ap (λ (l : List ℕ). x ∷ l) (take_seam xs ys)
-
--- ---- inputs, one after the other
-
-fed_append : (inputs others : List Input) → fed_in (inputs ++ others) ≡ fed_in inputs ++ fed_in others
-fed_append [] others = refl
-fed_append (Sent r ∷ inputs) others = fed_append inputs others
-fed_append (Fed piece ∷ inputs) others =
-    ap (λ (l : List ℕ). piece ++ l) (fed_append inputs others) ∙ sym (append_assoc piece (fed_in inputs) (fed_in others))
-
-sent_append : (inputs others : List Input) → sent_in (inputs ++ others) ≡ sent_in inputs ++ sent_in others
-sent_append [] others = refl
-sent_append (Sent r ∷ inputs) others = ap (λ (l : List ARequest). r ∷ l) (sent_append inputs others)
-sent_append (Fed piece ∷ inputs) others = sent_append inputs others
-
-fed_sent : (inputs : List Input) (r : ARequest) → fed_in (inputs ++ Sent r ∷ []) ≡ fed_in inputs
-fed_sent inputs r = fed_append inputs (Sent r ∷ []) ∙ append-nil (fed_in inputs)
-
-fed_fed : (inputs : List Input) (piece : List ℕ) → fed_in (inputs ++ Fed piece ∷ []) ≡ fed_in inputs ++ piece
-fed_fed inputs piece = fed_append inputs (Fed piece ∷ []) ∙ ap (λ (l : List ℕ). fed_in inputs ++ l) (append-nil piece)
-
-sent_fed : (inputs : List Input) (piece : List ℕ) → sent_in (inputs ++ Fed piece ∷ []) ≡ sent_in inputs
-sent_fed inputs piece = sent_append inputs (Fed piece ∷ []) ∙ append-nil (sent_in inputs)
 
 -- ---- what is asked
 
 asked_by : Option ARequest → Option Asked
 asked_by found = option_map (λ (r : ARequest). asked_of r.command) found
 
+told_append : (xs ys : List ARequest) (n : ℕ) → first_told (xs ++ ys) n ≡ option_or (first_told xs n) (first_told ys n)
+told_append [] ys n = refl
+told_append (r ∷ xs) ys n = by (eqb r.seq n) (told_append xs ys n) where
+  by : (b : Bool) → first_told (xs ++ ys) n ≡ option_or (first_told xs n) (first_told ys n)
+      → cond b (Some r) (first_told (xs ++ ys) n) ≡ option_or (cond b (Some r) (first_told xs n)) (first_told ys n)
+  by true rest = refl
+  by false rest = rest
+
 told_then : (asked : ℕ → Option Asked) (told : List ARequest) (r : ARequest) (n : ℕ) → asked n ≡ asked_by (first_told told n)
     → told_of asked r.seq (asked_of r.command) n ≡ asked_by (first_told (told ++ r ∷ []) n)
 unfolding asked_by
-told_then asked [] r n e = by (eqb r.seq n) where
-  by : (b : Bool)
-      → cond b (kept_first (asked_of r.command) (asked n)) (asked n) ≡ asked_by (let none : Option ARequest = None in cond b (Some r) none)
-  by true = ap (kept_first (asked_of r.command)) e
-  by false = e
-told_then asked (q ∷ told) r n e = by (eqb q.seq n) (told_then asked told r n) e where
-  known : (x : Option Asked) (b : Bool) → x ≡ Some (asked_of q.command)
-      → cond b (kept_first (asked_of r.command) x) x ≡ Some (asked_of q.command)
-  known x true e = ap (kept_first (asked_of r.command)) e
-  known x false e = e
-
-  by : (b : Bool)
-      → (asked n ≡ asked_by (first_told told n) → told_of asked r.seq (asked_of r.command) n ≡ asked_by (first_told (told ++ r ∷ []) n))
-      → asked n ≡ asked_by (cond b (Some q) (first_told told n))
-      → told_of asked r.seq (asked_of r.command) n ≡ asked_by (cond b (Some q) (first_told (told ++ r ∷ []) n))
-  by true rest e = known (asked n) (eqb r.seq n) e
-  by false rest e = rest e
+told_then asked told r n e =
+    by (first_told told n) (eqb r.seq n) (asked n) e ∙ ap asked_by (sym (told_append told (r ∷ []) n)) where
+      by : (found : Option ARequest) (b : Bool) (x : Option Asked) → x ≡ asked_by found
+          → cond b (kept_first (asked_of r.command) x) x ≡ asked_by (option_or found (cond b (Some r) None))
+      by None true x e = ap (kept_first (asked_of r.command)) e
+      by None false x e = e
+      by (Some q) true x e = ap (kept_first (asked_of r.command)) e
+      by (Some q) false x e = e
 
 -- ---- messages that come
 
 -- a message changes what is known as it should, where it was told what a success answers
 module _ (asked : ℕ → Option Asked) (told : List ARequest) (heard : List Ask)
     (is : (n : ℕ) → asked n ≡ asked_by (first_told told n)) where
-  outcome_folds : (n : ℕ) (outcome : Outcome) (f : Facts) (command : List ℕ)
-      → (is_success outcome ≡ true → first_told told n ≡ first_asked heard n)
-      → folded asked f (IsResponse (record { request_seq = n; command = command; outcome = outcome }))
-      ≡ folded (remembered heard) f (IsResponse (record { request_seq = n; command = command; outcome = outcome }))
-  unfolding asked_by
-  outcome_folds n (Done body) f command h =
-      ap (λ (a : Option Asked). answered a (Done body) f) (is n ∙ ap asked_by (h refl))
-  outcome_folds n (Refused refusal text) f command h =
-      refused_tells (asked n) refusal text f ∙ sym (refused_tells (remembered heard n) refusal text f)
-
   message_folds : (m : Message) (f : Facts) → IsTold told heard m → folded asked f m ≡ folded (remembered heard) f m
-  message_folds (IsResponse r) f h = outcome_folds r.request_seq r.outcome f r.command h
+  unfolding asked_by
+  message_folds (IsResponse r) f h =
+      answers_same (asked r.request_seq) (remembered heard r.request_seq) r.outcome f (λ success. is r.request_seq ∙ ap asked_by (h success))
   message_folds (IsEvent e) f h = refl
 
-  all_fold : (said : List Said) (f : Facts) → All (λ (m : Said). IsTold told heard m.message) said
+  abbrev Told : Said → Type 0
+  Told m = IsTold told heard m.message
+
+  all_fold : (said : List Said) (f : Facts) → All Told said
       → fold (folded asked) f (map (λ (m : Said). m.message) said) ≡ known_after (remembered heard) f said
   all_fold [] f h = refl
   all_fold (m ∷ said) f h =
-      all_fold said (folded asked f m.message) (All-tail (λ (m : Said). IsTold told heard m.message) m said h)
-      ∙ ap (λ (g : Facts). known_after (remembered heard) g said)
-      (message_folds m.message f (All-head (λ (m : Said). IsTold told heard m.message) m said h))
-
-known_append : (asked : ℕ → Option Asked) (f : Facts) (xs ys : List Said)
-    → known_after asked f (xs ++ ys) ≡ known_after asked (known_after asked f xs) ys
-known_append asked f [] ys = refl
-known_append asked f (m ∷ xs) ys = known_append asked (folded asked f m.message) xs ys
+      all_fold said (folded asked f m.message) (All-tail Told m said h)
+      ∙ ap (λ (g : Facts). known_after (remembered heard) g said) (message_folds m.message f (All-head Told m said h))
 
 -- with more bytes more messages have come
-record MoreTold (count more : ℕ) (said : List Said) : Type 0 where
-  news : List Said
-  are : told_within (count + more) said ≡ told_within count said ++ news
-
--- what more bytes make of messages that begin with m
-module _ (m : Said) (said : List Said) (count more : ℕ) (rest : MoreTold (count - length (frame_said m)) more said) where
-  abbrev Both : Bool → Bool → Type 0
-  Both a b =
-      (news : List Said) × (cond b (m ∷ told_within ((count + more) - length (frame_said m)) said) []
-      ≡ cond a (m ∷ told_within (count - length (frame_said m)) said) [] ++ news)
-
-  wider : length (frame_said m) ≤ count → leb (length (frame_said m)) (count + more) ≡ true
-  wider fits = grind (arith, nat_tests, fits)
-
-  of_both : (a b : Bool) → leb (length (frame_said m)) count ≡ a → leb (length (frame_said m)) (count + more) ≡ b → Both a b
-  of_both true true e f =
-      let fits : length (frame_said m) ≤ count = grind (arith, nat_tests, e) in
-      let same : (count + more) - length (frame_said m) ≡ (count - length (frame_said m)) + more = omega (arith, fits) in
-      (rest.news, ap (λ (l : List Said). m ∷ l) (ap (λ n. told_within n said) same ∙ rest.are))
-  of_both true false e f =
-      let fits : length (frame_said m) ≤ count = grind (arith, nat_tests, e) in
-      absurd (let no : true ≡ false = sym (wider fits) ∙ f in cc)
-  of_both false true e f = (m ∷ told_within ((count + more) - length (frame_said m)) said, refl)
-  of_both false false e f = ([], refl)
-
-  one_more : MoreTold count more (m ∷ said)
-  one_more =
-      let both = of_both (leb (length (frame_said m)) count) (leb (length (frame_said m)) (count + more)) refl refl in
-      record { news = both.0; are = both.1 }
-
-more_told : (said : List Said) (count more : ℕ) → MoreTold count more said
-more_told [] count more = record { news = []; are = refl }
-more_told (m ∷ said) count more = one_more m said count more (more_told said (count - length (frame_said m)) more)
-
--- ---- all that an editor did
-
-never : (n : ℕ) → 0 < n → leb n 0 ≡ false
-never n some = grind (arith, nat_tests, some)
+more_told : (said : List Said) (count most : ℕ) → count ≤ most → (news : List Said) × (told_within most said ≡ told_within count said ++ news)
+more_told [] count most few = ([], refl)
+more_told (m ∷ said) count most few =
+    let n = length (frame_said m) in
+    if_keeps (λ (l : List Said). (news : List Said) × (told_within most (m ∷ said) ≡ l ++ news)) (leb n count) _ _
+    (λ e.
+    let fits = leb-true n count e in
+    let rest = more_told said (count - n) (most - n) (omega (arith, few)) in
+    (rest.0, cond-true (leb n most) _ _ (le-leb n most (omega (arith, few, fits))) ∙ ap (λ (l : List Said). m ∷ l) rest.1))
+    (λ _. (told_within most (m ∷ said), refl))
 
 none_within_0 : (said : List Said) → told_within 0 said ≡ []
 none_within_0 [] = refl
-none_within_0 (m ∷ said) =
-    ap (λ (b : Bool). cond b (m ∷ told_within (0 - length (frame_said m)) said) []) (never (length (frame_said m)) (framed_some m))
+none_within_0 (m ∷ said) = cond-false _ _ _ (lt-leb (length (frame_said m)) 0 (framed_some m))
+
+-- ---- all that an editor did
 
 module _ (life : Life) (readable : All IsReadable life.said) where
-  -- what inputs made, by all that was done
-  record Made (inputs : List Input) : Type 0 where
-    bytes : (after inputs).bytes ≡ fed_in inputs
-    asked : (n : ℕ) → (after inputs).asked n ≡ asked_by (first_told (sent_in inputs) n)
-    facts : (after inputs).facts ≡ known_within (length (fed_in inputs)) life
-
-  told_more : (inputs : List Input) (r : ARequest) → Made inputs → Made (inputs ++ Sent r ∷ [])
-  told_more inputs r h =
-      let past = inputs_make_pasts inputs (Sent r) in
-      record {
-        bytes = ap (λ (p : Past). p.bytes) past ∙ h.bytes ∙ sym (fed_sent inputs r);
-        asked =
-            λ n. ap (λ (p : Past). p.asked n) past ∙ told_then (after inputs).asked (sent_in inputs) r n (h.asked n)
-            ∙ ap (λ (l : List ARequest). asked_by (first_told l n)) (sym (sent_append inputs (Sent r ∷ [])));
-        facts =
-            ap (λ (p : Past). p.facts) past ∙ h.facts ∙ ap (λ (l : List ℕ). known_within (length l) life) (sym (fed_sent inputs r));
-      }
-
   -- the bytes that were fed are the first of the connection
   are_first : (fed : List ℕ) → IsPrefixOf fed (bytes_of life) → fed ≡ take (length fed) (bytes_of life)
-  are_first fed prefix = sym (ap (take (length fed)) prefix.1 ∙ take_seam fed prefix.0)
+  are_first fed prefix = sym (ap (take (length fed)) prefix.1 ∙ take-append_seam fed prefix.0)
 
   messages_fed : (fed : List ℕ) → IsPrefixOf fed (bytes_of life)
       → messages_so_far fed ≡ map (λ (m : Said). m.message) (told_within (length fed) life.said)
@@ -193,82 +92,68 @@ module _ (life : Life) (readable : All IsReadable life.said) where
   sooner : (fed piece : List ℕ) → IsPrefixOf (fed ++ piece) (bytes_of life) → IsPrefixOf fed (bytes_of life)
   sooner fed piece prefix = (piece ++ prefix.0, prefix.1 ∙ append_assoc fed piece prefix.0)
 
-  messages_new : (fed piece : List ℕ) → IsPrefixOf (fed ++ piece) (bytes_of life)
-      → newly_whole fed piece ≡ map (λ (m : Said). m.message) (more_told life.said (length fed) (length piece)).news
-  messages_new fed piece prefix =
-      let before = messages_fed fed (sooner fed piece prefix) in
-      let both = messages_fed (fed ++ piece) prefix in
-      let old = told_within (length fed) life.said in
-      let more = more_told life.said (length fed) (length piece) in
-      let all : messages_so_far (fed ++ piece) ≡ map (λ (m : Said). m.message) old ++ map (λ (m : Said). m.message) more.news =
-      both ∙ ap (λ (n : ℕ). map (λ (m : Said). m.message) (told_within n life.said)) (length-append fed piece)
-      ∙ ap (map (λ (m : Said). m.message)) more.are ∙ map-append (λ (m : Said). m.message) old more.news in
-      ap (λ (l : List Message). drop (length l) (messages_so_far (fed ++ piece))) before
-      ∙ ap (drop (length (map (λ (m : Said). m.message) old))) all
-      ∙ drop-append_seam (map (λ (m : Said). m.message) old) (map (λ (m : Said). m.message) more.news)
+  -- what was told, of the messages in these bytes
+  abbrev AllTold : List ARequest → List ℕ → Type 0
+  AllTold sent fed = All (λ (m : Said). IsTold sent life.heard m.message) (told_within (length fed) life.said)
 
-  fed_more : (inputs : List Input) (piece : List ℕ) → IsPrefixOf (fed_in inputs ++ piece) (bytes_of life)
-      → All (λ (m : Said). IsTold (sent_in inputs) life.heard m.message) (told_within (length (fed_in inputs ++ piece)) life.said)
-      → Made inputs → Made (inputs ++ Fed piece ∷ [])
-  fed_more inputs piece prefix told h =
-      let past = inputs_make_pasts inputs (Fed piece) in
-      let fed = fed_in inputs in
-      let more = more_told life.said (length fed) (length piece) in
+  -- so it is at each time, after these requests and these bytes
+  abbrev InTime : List ARequest → List ℕ → List Input → Type 0
+  InTime sent fed inputs = (before rest : List Input) → before ++ rest ≡ inputs → AllTold (sent ++ sent_in before) (fed ++ fed_in before)
+
+  -- a past that these requests and its bytes made
+  record Made (sent : List ARequest) (past : Past) : Type 0 where
+    asked : (n : ℕ) → past.asked n ≡ asked_by (first_told sent n)
+    facts : past.facts ≡ known_within (length past.bytes) life
+
+  piece_makes : (sent : List ARequest) (past : Past) (piece : List ℕ) → IsPrefixOf (past.bytes ++ piece) (bytes_of life)
+      → AllTold sent (past.bytes ++ piece) → Made sent past → Made sent (with_piece past piece)
+  piece_makes sent past piece prefix told h =
+      let fed = past.bytes in
+      let text = λ (m : Said). m.message in
       let old = told_within (length fed) life.said in
-      let all : told_within (length (fed ++ piece)) life.said ≡ old ++ more.news =
-      ap (λ (n : ℕ). told_within n life.said) (length-append fed piece) ∙ more.are in
-      let news = later_hold (λ (m : Said). IsTold (sent_in inputs) life.heard m.message) old more.news
-      (subst (All (λ (m : Said). IsTold (sent_in inputs) life.heard m.message)) all told) in
+      let more = more_told life.said (length fed) (length (fed ++ piece)) (omega (arith, length-append fed piece)) in
+      let all : messages_so_far (fed ++ piece) ≡ map text old ++ map text more.0 =
+      messages_fed (fed ++ piece) prefix ∙ ap (map text) more.1 ∙ map-append text old more.0 in
+      let new : newly_whole fed piece ≡ map text more.0 =
+      ap (λ (l : List Message). drop (length l) (messages_so_far (fed ++ piece))) (messages_fed fed (sooner fed piece prefix))
+      ∙ ap (drop (length (map text old))) all ∙ drop-append_seam (map text old) (map text more.0) in
+      let T = λ (m : Said). IsTold sent life.heard m.message in
       record {
-        bytes = ap (λ (p : Past). p.bytes) past ∙ ap (λ (l : List ℕ). l ++ piece) h.bytes ∙ sym (fed_fed inputs piece);
-        asked =
-            λ n. ap (λ (p : Past). p.asked n) past ∙ h.asked n
-            ∙ ap (λ (l : List ARequest). asked_by (first_told l n)) (sym (sent_fed inputs piece));
+        asked = h.asked;
         facts =
-            ap (λ (p : Past). p.facts) past
-            ∙ ap (λ (l : List ℕ). fold (folded (after inputs).asked) (after inputs).facts (newly_whole l piece)) h.bytes
-            ∙ ap (fold (folded (after inputs).asked) (after inputs).facts) (messages_new fed piece prefix)
-            ∙ all_fold (after inputs).asked (sent_in inputs) life.heard h.asked more.news (after inputs).facts news
-            ∙ ap (λ (f : Facts). known_after (remembered life.heard) f more.news) h.facts
-            ∙ sym (known_append (remembered life.heard) nothing_known old more.news)
-            ∙ ap (known_after (remembered life.heard) nothing_known) (sym all)
-            ∙ ap (λ (l : List ℕ). known_within (length l) life) (sym (fed_fed inputs piece));
+            ap (fold (folded past.asked) past.facts) new
+            ∙ all_fold past.asked sent life.heard h.asked more.0 past.facts (later_hold T old more.0 (subst (All T) more.1 told))
+            ∙ ap (λ (f : Facts). known_after (remembered life.heard) f more.0) h.facts
+            ∙ sym (known_append (remembered life.heard) nothing_known old more.0)
+            ∙ ap (known_after (remembered life.heard) nothing_known) (sym more.1);
       }
 
-  before_more : (inputs : List Input) (input : Input) → IsEditor life (inputs ++ input ∷ []) → IsEditor life inputs
-  before_more inputs input h = record {
-    bytes =
-        sooner (fed_in inputs) (fed_in (input ∷ []))
-        (subst (λ (l : List ℕ). IsPrefixOf l (bytes_of life)) (fed_append inputs (input ∷ [])) h.bytes);
-    in_time =
-        λ before rest is. h.in_time before (rest ++ input ∷ [])
-        (sym (append_assoc before rest (input ∷ [])) ∙ ap (λ (l : List Input). l ++ input ∷ []) is);
-  }
-
-  made_more : (inputs : List Input) (input : Input) → IsEditor life (inputs ++ input ∷ []) → Made inputs → Made (inputs ++ input ∷ [])
-  made_more inputs (Sent r) editor h = told_more inputs r h
-  made_more inputs (Fed piece) editor h =
-      let prefix = subst (λ (l : List ℕ). IsPrefixOf l (bytes_of life)) (fed_fed inputs piece) editor.bytes in
-      let told = editor.in_time (inputs ++ Fed piece ∷ []) [] (append-nil (inputs ++ Fed piece ∷ [])) in
-      fed_more inputs piece prefix
-      (subst (λ (l : List ℕ). All (λ (m : Said). IsTold (sent_in inputs) life.heard m.message) (told_within (length l) life.said))
-      (fed_fed inputs piece)
-      (subst (λ (rs : List ARequest). All (λ (m : Said). IsTold rs life.heard m.message)
-      (told_within (length (fed_in (inputs ++ Fed piece ∷ []))) life.said))
-      (sent_fed inputs piece) told)) h
-
-  made_none : Made []
-  unfolding asked_by
-  made_none = record {
-    bytes = refl;
-    asked = λ n. refl;
-    facts = sym (ap (known_after (remembered life.heard) nothing_known) (none_within_0 life.said));
-  }
+  makes : (inputs : List Input) (sent : List ARequest) (past : Past) → IsPrefixOf (past.bytes ++ fed_in inputs) (bytes_of life)
+      → InTime sent past.bytes inputs → Made sent past
+      → (fold after_input past inputs).facts ≡ known_within (length (past.bytes ++ fed_in inputs)) life
+  makes [] sent past prefix time h = h.facts ∙ ap (λ (l : List ℕ). known_within (length l) life) (sym (append-nil past.bytes))
+  makes (Sent r ∷ inputs) sent past prefix time h =
+      makes inputs (sent ++ r ∷ []) (with_request past r) prefix
+      (λ before rest is. subst (λ (rs : List ARequest). AllTold rs (past.bytes ++ fed_in before)) (sym (append_assoc sent (r ∷ []) (sent_in before)))
+      (time (Sent r ∷ before) rest (ap (λ (l : List Input). Sent r ∷ l) is)))
+      (record { asked = λ n. told_then past.asked sent r n (h.asked n); facts = h.facts })
+  makes (Fed piece ∷ inputs) sent past prefix time h =
+      let fed = past.bytes ++ piece in
+      let same = append_assoc past.bytes piece (fed_in inputs) in
+      let first = subst (λ (l : List ℕ). IsPrefixOf l (bytes_of life)) (sym same) prefix in
+      let later : InTime sent fed inputs =
+      λ before rest is. subst (λ (l : List ℕ). AllTold (sent ++ sent_in before) l) (sym (append_assoc past.bytes piece (fed_in before)))
+      (time (Fed piece ∷ before) rest (ap (λ (l : List Input). Fed piece ∷ l) is)) in
+      let told = subst (λ (rs : List ARequest). AllTold rs fed) (append-nil sent)
+      (subst (λ (l : List ℕ). AllTold (sent ++ []) l) (append-nil fed) (later [] inputs refl)) in
+      makes inputs sent (with_piece past piece) first later (piece_makes sent past piece (sooner fed (fed_in inputs) first) told h)
+      ∙ ap (λ (l : List ℕ). known_within (length l) life) same
 
   pub facts_made : (inputs : List Input) → IsEditor life inputs → (after inputs).facts ≡ known_within (length (fed_in inputs)) life
+  unfolding asked_by
   facts_made inputs editor =
-      (of_each (λ (l : List Input). IsEditor life l → Made l)
-      (λ l input h editor. made_more l input editor (h (before_more l input editor))) inputs (λ _. made_none) editor).facts
+      makes inputs [] nothing_past editor.bytes editor.in_time
+      (record { asked = λ n. refl; facts = sym (ap (known_after (remembered life.heard) nothing_known) (none_within_0 life.said)) })
 
   pub no_fault : (inputs : List Input) → IsEditor life inputs → stream_fault (fed_in inputs) ≡ None
   no_fault inputs editor =
@@ -286,33 +171,20 @@ was_told : (heard : List Ask) (m : Message) → IsTold (requests_in heard) heard
 was_told heard (IsResponse r) = λ _. requests_first heard r.request_seq
 was_told heard (IsEvent e) = tt
 
-all_told : (heard : List Ask) (said : List Said) → All (λ (m : Said). IsTold (requests_in heard) heard m.message) said
-all_told heard [] = All-nil (λ (m : Said). IsTold (requests_in heard) heard m.message)
-all_told heard (m ∷ said) =
-    All-cons (λ (m : Said). IsTold (requests_in heard) heard m.message) m said (was_told heard m.message) (all_told heard said)
-
 -- at each time it has fed nothing, or told all
-abbrev NothingOrAll : List ARequest → List Input → Type 0
-NothingOrAll rs inputs = (fed_in inputs ≡ []) ⊎ (sent_in inputs ≡ rs)
-
-fed_last : (piece : List ℕ) (x : Input) (before rest : List Input) → x ∷ (before ++ rest) ≡ Fed piece ∷ [] → sent_in (x ∷ before) ≡ []
-fed_last piece x [] rest is =
-    let same : x ≡ Fed piece = cc in subst (λ (i : Input). sent_in (i ∷ []) ≡ []) (sym same) refl
-fed_last piece x (y ∷ before) rest is = absurd (let no : y ∷ (before ++ rest) ≡ [] = cc in cc)
-
-told_one : (r : ARequest) (rs : List ARequest) (before : List Input) → NothingOrAll rs before → NothingOrAll (r ∷ rs) (Sent r ∷ before)
-told_one r rs before (inl none) = inl none
-told_one r rs before (inr all) = inr (ap (λ (l : List ARequest). r ∷ l) all)
-
 nothing_or_all : (rs : List ARequest) (piece : List ℕ) (before rest : List Input) → before ++ rest ≡ map Sent rs ++ Fed piece ∷ []
-    → NothingOrAll rs before
+    → (fed_in before ≡ []) ⊎ (sent_in before ≡ rs)
 nothing_or_all rs piece [] rest is = inl refl
-nothing_or_all [] piece (x ∷ before) rest is = inr (fed_last piece x before rest is)
-nothing_or_all (r ∷ rs) piece (x ∷ before) rest is =
-    let same : x ≡ Sent r = cc in
-    let others : before ++ rest ≡ map Sent rs ++ Fed piece ∷ [] = cc in
-    subst (λ (i : Input). NothingOrAll (r ∷ rs) (i ∷ before)) (sym same)
-    (told_one r rs before (nothing_or_all rs piece before rest others))
+nothing_or_all [] piece (Fed x ∷ []) rest is = inr refl
+nothing_or_all [] piece (Fed x ∷ y ∷ before) rest is = absurd (let no : y ∷ (before ++ rest) ≡ [] = cc in cc)
+nothing_or_all [] piece (Sent q ∷ before) rest is = absurd (let no : Sent q ≡ Fed piece = cc in cc)
+nothing_or_all (r ∷ rs) piece (Fed x ∷ before) rest is = absurd (let no : Fed x ≡ Sent r = cc in cc)
+nothing_or_all (r ∷ rs) piece (Sent q ∷ before) rest is =
+    by (let same : q ≡ r = cc in same)
+    (nothing_or_all rs piece before rest (let others : before ++ rest ≡ map Sent rs ++ Fed piece ∷ [] = cc in others)) where
+      by : q ≡ r → (fed_in before ≡ []) ⊎ (sent_in before ≡ rs) → (fed_in before ≡ []) ⊎ (q ∷ sent_in before ≡ r ∷ rs)
+      by same (inl none) = inl none
+      by same (inr all) = inr (cc)
 
 pub fed_first : (rs : List ARequest) (piece : List ℕ) → fed_in (map Sent rs ++ Fed piece ∷ []) ≡ piece
 fed_first [] piece = append-nil piece
@@ -326,12 +198,11 @@ is_editor life count = record {
   in_time =
       λ before rest is. in_time before (nothing_or_all (requests_in life.heard) (take count (bytes_of life)) before rest is);
 } where
-  in_time : (before : List Input) → NothingOrAll (requests_in life.heard) before → AreTold life before
+  in_time : (before : List Input) → (fed_in before ≡ []) ⊎ (sent_in before ≡ requests_in life.heard) → AreTold life before
   in_time before (inl none) =
       subst (λ (l : List Said). All (λ (m : Said). IsTold (sent_in before) life.heard m.message) l)
       (sym (ap (λ (l : List ℕ). told_within (length l) life.said) none ∙ none_within_0 life.said))
       (All-nil (λ (m : Said). IsTold (sent_in before) life.heard m.message))
   in_time before (inr all) =
       subst (λ (rs : List ARequest). All (λ (m : Said). IsTold rs life.heard m.message) (told_within (length (fed_in before)) life.said))
-      (sym all)
-      (all_told life.heard (told_within (length (fed_in before)) life.said))
+      (sym all) (λ k d _. was_told life.heard (get_or (told_within (length (fed_in before)) life.said) k d).message)

@@ -1,35 +1,33 @@
--- What the beats of a slice queue, where it makes no move, or one that comes first.
-use Rattle.headline.proofs.Common.{[], Act, after_beat, ap, beat, Beat, beat_by, beat_of, becomes, Bool, by_move, concludes, cond, Ended, ending_of, ends, entered, Event, exits, false, FULL, goes, goes_unless, histories, if_keeps, is_at_limit, is_runnable_by, is_running, IsFollowed, List, logged, ltb, makes_move, Mark, moved, moves_by, next_tick, None, not, Now, Option, Outcome as CameTo, output_events, performed, performed_append, performed_on, Program, program_of, refl, Running, Session, shown_of, sight_by, SliceEnd, Snapshot, Some, Stopped, stops, subst, sym, telling, tells, Tick, told, true, Went, why_marked, ℕ, ℤ, ◌∙◌, ◌∷◌, ◌≡◌}
+-- What a turn queues, and what the beats of a slice queue, where it makes no move, or one that comes first.
+use Rattle.headline.proofs.Common.{[], after_beat, All, answer_to, Answering, answering, ap, as_running, Beat, beat, becomes, closing, concludes, Effect, Ended, ended, ending_of, ends, entered, exit_events, false, HangUp, histories, is_running, IsFollowed, Link, List, logged, makes_move, map, Message, moved, None, Numbers, on, on_with, Option, Outcome as CameTo, output_events, Pending, performed, performed_on, Program, program_of, refl, Response as IsResponse, response_to, Running, runs, said_on, seen_now, Session, shown_of, Sight, sight, sight_by, SliceEnd, Snapshot, snapshot_of, Some, stop_event, Stopped, stopped, stops, subst, sym, Tell, tells, Tick, told, true, Turn, Went, Why, why_marked, with_change, ℕ, ◌++◌, ◌∙◌, ◌∷◌, ◌≡◌}
 use mathlib.Core.Path.{fun_ext}
 use Rattle.debuggee.specs.declared.run.Why.TheVariants as why
 use Rattle.session.specs.declared.event.SliceEnd.TheVariants as ending
-use Rattle.stepping.specs.declared.tick.Reason.TheVariants as met
-use Rattle.headline.proofs.Agreeing.{OwesOf, OwesRunning, never}
+use Rattle.session_laws.proofs.Joined.{never_spent}
+use Rattle.headline.proofs.Agreeing.{never, OwesOf, OwesRunning}
+use Rattle.headline.proofs.ByBeat.{by_beat, ByBeat, enters, tells_owed}
+use Rattle.headline.proofs.ByEvent.{after_answer, by_turn, ByTurn}
+use Rattle.headline.proofs.Owing.{exits_plain, one_plain, Plain}
 use Rattle.headline.proofs.Beating.{entered_same}
-use Rattle.headline.proofs.Newly.{Printed, Same, became, became_first, exits_told, halts_told, just_told, nothing_newly, outputs_printed, tells_snapshot}
-use Rattle.headline.proofs.Outputs.{tick_is_output}
+use Rattle.headline.proofs.Leaving.{answer_is_mild}
+use Rattle.headline.proofs.Newly.{acts_queued, acts_seen, becomes_show, ends_seen, EndsAt, FitsTo, followed, nothing_queued, output_shows, plain_show, Printed, printed_fits, printed_still, PrintsTo, Queued, queued_as, runs_seen, said_queued, said_snapshot, Shows}
 
--- ---- what is the same to see
+abbrev seen_of : Session → Option Program → Sight
+seen_of t program = sight_by program t.now.numbers
 
-itself : (a : Option Program) → Same a a
-itself a numbers = refl
+seen_is : (t : Session) (p : Program) → program_of t ≡ Some p → as_running (seen_now t) ≡ as_running (seen_of t (Some p))
+seen_is t p is = ap (λ (program : Option Program). as_running (seen_of t program)) is
 
-told_same : (p : Program) → Same (Some p) (Some (told p))
-told_same p numbers = refl
-
-checked_same : (p : Program) → Same (Some p) (Some (entered p))
+checked_same : (p : Program) (numbers : Numbers) → as_running (sight_by (Some p) numbers) ≡ as_running (sight_by (Some (entered p)) numbers)
 checked_same p numbers =
-    let same = entered_same p in
-    let source = fun_ext (λ (path : List ℕ). same.source numbers path) in
-    let instructions = same.instructions numbers in
-    let functions = same.functions numbers in
+    let same = entered_same p numbers numbers in
+    let source = fun_ext same.source in
+    let instructions = same.instructions in
+    let functions = same.functions in
     λ i. record (sight_by (Some p) numbers) {
       facts =
           record (shown_of p numbers) { run = Running; source = source i; instructions = instructions i; functions = functions i };
     }
-
-same_as : (a b c : Option Program) → a ≡ b → Same b c → Same a c
-same_as a b c e same = subst (λ (x : Option Program). Same x c) (sym e) same
 
 -- ---- a beat
 
@@ -38,190 +36,154 @@ pub record Follows (s t : Session) (b : Beat) : Type 0 where
   pub told : IsFollowed s (after_beat histories b t)
   pub printed : b.ending ≡ None → Printed s (after_beat histories b t)
 
-ends_follow : (s t : Session) (e : SliceEnd) → Printed s t → Follows s t (ends e)
-ends_follow s t e h = record { told = just_told s t h; printed = λ _. h }
+goes_follow : (s t : Session) (b : Beat) → Printed s (after_beat histories b t) → Follows s t b
+goes_follow s t b h =
+    let u = after_beat histories b t in record { told = followed s u (printed_fits s u (seen_now u) refl h); printed = λ _. h }
 
-some_ending : {A : Type 0} (e : SliceEnd) → Some e ≡ None → A
-some_ending e is = absurd (cc)
+-- a beat that ends the slice
+ends_follow : (s t : Session) (b : Beat) (e : SliceEnd) (f : Sight) → b.ending ≡ Some e → Shows (FitsTo f) (EndsAt f) (snapshot_of t.now) b.acts
+    → Queued (FitsTo f) s t → Follows s t b
+ends_follow s t b e f is shows q = record {
+  told = followed s (after_beat histories b t) (acts_seen FitsTo f b.acts s t shows q);
+  printed = λ none. never e (sym none ∙ is);
+}
 
-stops_follow : (s t : Session) (p : Program) (reason : _) → program_of t ≡ Some p → Printed s t → Follows s t (stops t.now p reason)
-stops_follow s t p reason is h =
-    record {
-      told = halts_told t.now p reason [] s t (same_as (program_of t) (Some p) (Some p) is (itself (Some p))) h;
-      printed =
-          λ e. some_ending ending.Stopped e;
-    }
+stops_follow : (s t : Session) (p : Program) (reason : Why) → Queued (FitsTo (seen_of t (Some (stopped reason p)))) s t
+    → Follows s t (stops t.now p reason)
+stops_follow s t p reason q =
+    ends_follow s t _ ending.Stopped (seen_of t (Some (stopped reason p))) refl (becomes_show (snapshot_of t.now) t.now (stopped reason p) (stop_event reason [] ∷ []) (one_plain _ refl)) q
 
-exits_follow : (s t : Session) (p : Program) (code : ℤ) → program_of t ≡ Some p → Printed s t
-    → Follows s t (record { acts = exits t.now p code; moved = 0; ending = Some ending.Ended })
-exits_follow s t p code is h =
-    record {
-      told = exits_told t.now p code s t (same_as (program_of t) (Some p) (Some p) is (itself (Some p))) h;
-      printed =
-          λ e. some_ending ending.Ended e;
-    }
+rests_follow : (s t : Session) (e : SliceEnd) → Printed s t → Follows s t (ends e)
+unfolding Shows
+rests_follow s t e h = ends_follow s t (ends e) e (seen_now t) refl refl (printed_fits s t (seen_now t) refl h)
+
+-- what can be seen once what is owed is told
+abbrev after : Session → Program → Snapshot
+after t p = record { debuggee = record t.now.debuggee { program = Some (told p) }; numbers = t.now.numbers }
+
+-- what it comes to
+abbrev concluding : Session → Program → Tick → CameTo → Beat
+concluding t p tick o = record {
+  acts = becomes t.now (told p) ∷ (tells t.now (output_events tick.printed (logged p.machine.lists))
+      ++ concludes t.now (told p) o p.machine.lists.ids);
+  moved = 0;
+  ending = ending_of o;
+}
 
 -- what is owed is told
-module _ (s t : Session) (p : Program) (tick : Tick) (is : program_of t ≡ Some p) (run : is_running p.run ≡ true) (h : Printed s t) where
-  first : Session
-  first = performed_on (becomes t.now (told p)) t
-
-  abbrev output : List Event
-  output = output_events tick.printed (logged p.machine.lists)
-
-  second : Session
-  second = performed histories (tells t.now output) first
-
-  printed_first : Printed s first
-  unfolding first
-  printed_first =
-      became (record t.now.debuggee { program = Some (told p) }) s t (same_as (program_of t) (Some p) (Some (told p)) is (told_same p)) h
-
-  printed_second : Printed s second
-  unfolding first second
-  printed_second =
-      outputs_printed t.now output (told p) s first refl run (tick_is_output tick.printed (logged p.machine.lists)) printed_first
-
-  program_second : program_of second ≡ Some (told p)
-  unfolding first second
-  program_second = ap (λ (x : Snapshot). x.debuggee.program) (tells_snapshot t.now output first)
-
-  concluded : (outcome : CameTo) → tick.outcome ≡ outcome
-      → Follows s t (record { acts = telling t.now p tick; moved = 0; ending = ending_of tick.outcome })
-  unfolding first second
-  concluded outcome e =
-      let acts : List Act = concludes t.now (told p) tick.outcome p.machine.lists.ids in
-      let parts = performed_append (tells t.now output) acts first in
-      let same = same_as (program_of second) (Some (told p)) (Some (told p)) program_second (itself (Some (told p))) in
-      record {
-        told = subst (IsFollowed s) (sym parts) (ends_so outcome e same);
-        printed = λ none. subst (Printed s) (sym parts) (goes_so outcome e none);
-      }
-    where
-      ends_so : (outcome : CameTo) → tick.outcome ≡ outcome → Same (program_of second) (Some (told p))
-          → IsFollowed s (performed histories (concludes t.now (told p) tick.outcome p.machine.lists.ids) second)
-      ends_so outcome e same =
-          subst (λ (o : CameTo). IsFollowed s (performed histories (concludes t.now (told p) o p.machine.lists.ids) second)) (sym e)
-          (by outcome same) where
-            by : (o : CameTo) → Same (program_of second) (Some (told p))
-                → IsFollowed s (performed histories (concludes t.now (told p) o p.machine.lists.ids) second)
-            by Went same = just_told s second printed_second
-            by (Stopped reason) same = halts_told t.now (told p) (why.Met reason) p.machine.lists.ids s second same printed_second
-            by (Ended code) same = exits_told t.now (told p) code s second same printed_second
-
-      goes_so : (outcome : CameTo) → tick.outcome ≡ outcome → ending_of tick.outcome ≡ None
-          → Printed s (performed histories (concludes t.now (told p) tick.outcome p.machine.lists.ids) second)
-      goes_so Went e none =
-          subst (λ (o : CameTo). Printed s (performed histories (concludes t.now (told p) o p.machine.lists.ids) second))
-          (sym e) printed_second
-      goes_so (Stopped reason) e none = some_ending ending.Stopped (sym (ap ending_of e) ∙ none)
-      goes_so (Ended code) e none = some_ending ending.Ended (sym (ap ending_of e) ∙ none)
-
-  pub tells_follow : Follows s t (record { acts = telling t.now p tick; moved = 0; ending = ending_of tick.outcome })
-  tells_follow = concluded tick.outcome refl
+pub tells_follow : (s t : Session) (p : Program) (tick : Tick) → program_of t ≡ Some p → is_running p.run ≡ true → Printed s t
+    → Follows s t (tells_owed t.now p tick)
+unfolding Shows
+tells_follow s t p tick is run h = by tick.outcome where
+  by : (o : CameTo) → Follows s t (concluding t p tick o)
+  by Went =
+      let f = seen_of t (Some (told p)) in
+      goes_follow s t (concluding t p tick Went) (acts_seen PrintsTo f (concluding t p tick Went).acts s t
+      (output_shows (PrintsTo f) (EndsAt f) (after t p) t.now tick.printed (logged p.machine.lists) []
+      (λ body. (refl, runs_seen (told p) t.now.numbers run)) refl)
+      (printed_still s t f (seen_is t p is) h))
+  by (Stopped reason) =
+      let f = seen_of t (Some (stopped (why.Met reason) (told p))) in
+      ends_follow s t (concluding t p tick (Stopped reason)) ending.Stopped f refl
+      (output_shows (FitsTo f) (EndsAt f) (after t p) t.now tick.printed (logged p.machine.lists)
+      (concludes t.now (told p) (Stopped reason) p.machine.lists.ids) (λ body. runs_seen (told p) t.now.numbers run)
+      (becomes_show (after t p) t.now (stopped (why.Met reason) (told p)) (stop_event (why.Met reason) p.machine.lists.ids ∷ []) (one_plain _ refl)))
+      (printed_fits s t f (seen_is t p is) h)
+  by (Ended code) =
+      let f = seen_of t (Some (ended (Some code) (told p))) in
+      ends_follow s t (concluding t p tick (Ended code)) ending.Ended f refl
+      (output_shows (FitsTo f) (EndsAt f) (after t p) t.now tick.printed (logged p.machine.lists)
+      (concludes t.now (told p) (Ended code) p.machine.lists.ids) (λ body. runs_seen (told p) t.now.numbers run)
+      (becomes_show (after t p) t.now (ended (Some code) (told p)) (exit_events code) (exits_plain code)))
+      (printed_fits s t f (seen_is t p is) h)
 
 -- ---- a beat of a slice that has no move to make
 
-still_goes : (s t : Session) (p : Program) → program_of t ≡ Some p → Printed s t → Follows s t (goes t.now p false)
-still_goes s t p is h =
-    if_keeps (Follows s t) p.machine.check_due _ _
-    (λ _. let u = became (record t.now.debuggee { program = Some (entered p) }) s t
-    (same_as (program_of t) (Some p) (Some (entered p)) is (checked_same p)) h in
-    record { told = just_told s (performed_on (becomes t.now (entered p)) t) u; printed = λ _. u })
-    (λ _. ends_follow s t ending.Spent h)
+abbrev StillFollows : Session → Session → Option Program → Beat → Beat → Type 0
+StillFollows s t program still b = program_of t ≡ program → OwesOf program → Printed s t → Follows s t still
 
-still_unless : (mark : Option Mark) (s t : Session) (p : Program) → program_of t ≡ Some p → Printed s t
-    → Follows s t (goes_unless mark t.now p false)
-still_unless (Some mark) s t p is h = stops_follow s t p (why_marked mark) is h
-still_unless None s t p is h = still_goes s t p is h
-
-owed_follows : (owed : Option Tick) (s t : Session) (p : Program) → p.owed ≡ owed → OwesRunning p → program_of t ≡ Some p → Printed s t
-    → Follows s t (beat_by owed (histories.see t) p false)
-owed_follows (Some tick) s t p e owes is h = tells_follow s t p tick is (owes (λ none. never tick (sym none ∙ e))) h
-owed_follows None s t p e owes is h =
-    if_keeps (Follows s t) (not (is_runnable_by t.now.link p.run)) _ _ (λ _. ends_follow s t ending.Idle h)
-    (λ _. if_keeps (Follows s t) (ltb FULL _) _ _ (λ _. ends_follow s t ending.Full h) (λ _. still_unless p.mark s t p is h))
-
-still_program : (program : Option Program) (s t : Session) → program_of t ≡ program → OwesOf program → Printed s t
-    → Follows s t (beat_of program (histories.see t) false)
-still_program None s t is owes h = ends_follow s t ending.Idle h
-still_program (Some p) s t is owes h = owed_follows p.owed s t p refl owes is h
+still_beats : (s t : Session) → ByBeat (histories.see t) (StillFollows s t)
+unfolding Shows
+still_beats s t = record {
+  rests = λ program e is _ h. rests_follow s t e h;
+  owed = λ p tick e is owes h. tells_follow s t p tick is (owes (λ none. never tick (sym none ∙ e))) h;
+  checks = λ p g is _ h.
+      let f = seen_of t (Some (entered p)) in
+      goes_follow s t (enters t.now p) (acts_seen PrintsTo f (enters t.now p).acts s t refl (printed_still s t f (seen_is t p is ∙ checked_same p t.now.numbers) h));
+  halts_marked = λ p mark g is _ h. stops_follow s t p (why_marked mark) (printed_fits s t _ (seen_is t p is) h);
+  makes = λ p g is _ h. rests_follow s t ending.Spent h;
+  halts_moving = λ p why g is _ h. rests_follow s t ending.Spent h;
+  ends_moving = λ p code g is _ h. rests_follow s t ending.Spent h;
+}
 
 pub still_follows : (s t : Session) → OwesOf (program_of t) → Printed s t → Follows s t (beat (histories.see t) false)
-still_follows s t owes h = still_program (program_of t) s t refl owes h
+still_follows s t owes h = by_beat (histories.see t) (StillFollows s t) (still_beats s t) (program_of t) false refl owes h
 
 -- ---- the first beat of a slice that may make a move, from where nothing is owed
 
 -- such a beat ends the slice, or makes a move
 pub record Begins (s : Session) (b : Beat) : Type 0 where
-  pub told : IsFollowed s (after_beat histories b s)
-  pub printed : b.ending ≡ None → Printed s (after_beat histories b s)
+  pub follows : Follows s s b
   pub moved : b.ending ≡ None → b.moved ≡ 1
 
-begins_by : (s : Session) (b : Beat) (e : SliceEnd) → b.ending ≡ Some e → IsFollowed s (after_beat histories b s) → Begins s b
-begins_by s b e is h = record { told = h; printed = λ none. some_ending e (sym is ∙ none); moved = λ none. some_ending e (sym is ∙ none) }
+begins_by : (s : Session) (b : Beat) (e : SliceEnd) → b.ending ≡ Some e → Follows s s b → Begins s b
+begins_by s b e is h = record { follows = h; moved = λ none. never e (sym none ∙ is) }
 
-retires_begin : (s : Session) (p : Program) → Begins s (makes_move s.now p)
-retires_begin s p =
-    let u = became_first (record s.now.debuggee { program = Some (moved p) }) s in
-    record { told = just_told s (performed_on (becomes s.now (moved p)) s) u; printed = λ _. u; moved = λ _. refl }
+abbrev FirstBegins : Session → Option Program → Beat → Beat → Type 0
+FirstBegins s program still b = still ≡ ends ending.Spent → Begins s b
 
-moves_begin : (s : Session) (p : Program) (outcome : CameTo) → program_of s ≡ Some p → Begins s (moves_by s.now p outcome)
-moves_begin s p outcome is =
-    by_move (λ _ b. Begins s b) s.now p outcome (λ _ _. retires_begin s p)
-    (λ cause. begins_by s _ ending.Stopped refl (stops_follow s s p (why.Met (met.Exception cause)) is (nothing_newly s)).told)
-    (λ code. begins_by s _ ending.Ended refl (exits_follow s s p code is (nothing_newly s)).told)
-
-spent : Beat
-spent = ends ending.Spent
-
--- where the check at the entry is due, a slice without moves is not spent
-not_due : (now : Now) (p : Program) → p.machine.check_due ≡ true → goes now p false ≡ ends ending.Spent → ⊥
-not_due now p due e =
-    let going : goes now p false ≡ record { acts = becomes now (entered p) ∷ []; moved = 0; ending = None } = ap
-    (λ (b : Bool). cond b (record { acts = becomes now (entered p) ∷ []; moved = 0; ending = None }) (ends ending.Spent)) due in
-    let no : None ≡ Some ending.Spent = ap (λ (b : Beat). b.ending) (sym going ∙ e) in
-    cc
-
-goes_begin : (s : Session) (p : Program) → program_of s ≡ Some p → goes s.now p false ≡ ends ending.Spent → Begins s (goes s.now p true)
-goes_begin s p is rest =
-    if_keeps (Begins s) p.machine.check_due _ _ (λ due. absurd (not_due s.now p due rest))
-    (λ _. if_keeps (Begins s) (is_at_limit s.now p) _ _
-    (λ _. begins_by s _ ending.Stopped refl (stops_follow s s p why.Limit is (nothing_newly s)).told)
-    (λ _. moves_begin s p (next_tick p).outcome is))
-
-unless_begins : (mark : Option Mark) (s : Session) (p : Program) → program_of s ≡ Some p
-    → goes_unless mark s.now p false ≡ ends ending.Spent → Begins s (goes_unless mark s.now p true)
-unless_begins (Some mark) s p is rest = begins_by s _ ending.Stopped refl (stops_follow s s p (why_marked mark) is (nothing_newly s)).told
-unless_begins None s p is rest = goes_begin s p is rest
-
-ends_begin : (s : Session) (e : SliceEnd) → Begins s (ends e)
-ends_begin s e = begins_by s (ends e) e refl (just_told s s (nothing_newly s))
-
-never_spent : (outcome : CameTo) → ending_of outcome ≡ Some ending.Spent → ⊥
-never_spent Went e = cc
-never_spent (Stopped reason) e = cc
-never_spent (Ended code) e = cc
-
-owed_begins : (owed : Option Tick) (s : Session) (p : Program) → program_of s ≡ Some p
-    → beat_by owed (histories.see s) p false ≡ ends ending.Spent → Begins s (beat_by owed (histories.see s) p true)
-owed_begins (Some tick) s p is rest = absurd (never_spent tick.outcome (ap (λ (b : Beat). b.ending) rest))
-owed_begins None s p is rest = by_run (not (is_runnable_by s.now.link p.run)) (ltb FULL _) rest where
-  by_full : (full : Bool) → cond full (ends ending.Full) (goes_unless p.mark s.now p false) ≡ ends ending.Spent
-      → Begins s (cond full (ends ending.Full) (goes_unless p.mark s.now p true))
-  by_full true rest = ends_begin s ending.Full
-  by_full false rest = unless_begins p.mark s p is rest
-
-  by_run : (idle full : Bool)
-      → cond idle (ends ending.Idle) (cond full (ends ending.Full) (goes_unless p.mark s.now p false)) ≡ ends ending.Spent
-      → Begins s (cond idle (ends ending.Idle) (cond full (ends ending.Full) (goes_unless p.mark s.now p true)))
-  by_run true full rest = ends_begin s ending.Idle
-  by_run false full rest = by_full full rest
-
-program_begins : (program : Option Program) (s : Session) → program_of s ≡ program
-    → beat_of program (histories.see s) false ≡ ends ending.Spent → Begins s (beat_of program (histories.see s) true)
-program_begins None s is rest = ends_begin s ending.Idle
-program_begins (Some p) s is rest = owed_begins p.owed s p is rest
+first_beats : (s : Session) → ByBeat (histories.see s) (FirstBegins s)
+unfolding Shows
+first_beats s = record {
+  rests = λ program e _. begins_by s (ends e) e refl (rests_follow s s e (nothing_queued (PrintsTo (seen_now s)) s));
+  owed = λ p tick e rest. absurd (never_spent tick.outcome (ap (λ (b : Beat). b.ending) rest));
+  checks = λ p g rest. never ending.Spent (ap (λ (b : Beat). b.ending) rest);
+  halts_marked = λ p mark g _. begins_by s _ ending.Stopped refl (stops_follow s s p (why_marked mark) (nothing_queued (FitsTo _) s));
+  makes = λ p g _.
+      let f = seen_of s (Some (moved p)) in
+      record { follows = goes_follow s s (makes_move s.now p) (acts_seen PrintsTo f (makes_move s.now p).acts s s refl (nothing_queued (PrintsTo f) s)); moved = λ _. refl };
+  halts_moving = λ p why g _. begins_by s _ ending.Stopped refl (stops_follow s s p why (nothing_queued (FitsTo _) s));
+  ends_moving = λ p code g _.
+      let f = seen_of s (Some (ended (Some code) p)) in
+      begins_by s _ ending.Ended refl
+      (ends_follow s s _ ending.Ended f refl (becomes_show (snapshot_of s.now) s.now (ended (Some code) p) (exit_events code) (exits_plain code)) (nothing_queued (FitsTo f) s));
+}
 
 pub first_begins : (s : Session) → beat (histories.see s) false ≡ ends ending.Spent → Begins s (beat (histories.see s) true)
-first_begins s rest = program_begins (program_of s) s refl rest
+first_begins s rest = by_beat (histories.see s) (FirstBegins s) (first_beats s) (program_of s) true rest
+
+-- ---- an answer
+
+answering_told : (l : Link) (p : Pending) (rest : List Pending) (s : Session) (a : Answering) → All Plain a.events
+    → (let from = on_with (Some l) (p ∷ rest) s in IsFollowed from (performed histories (answering a) from))
+answering_told l p rest s a plain =
+    let from = on_with (Some l) (p ∷ rest) s in
+    let ready = on_with (Some (record l { terms = a.terms })) (p ∷ rest) (with_change a s) in
+    let m : Message = IsResponse (response_to p.ask a.outcome) in
+    let replied = said_on ready.now.link m rest ready in
+    let f = seen_now ready in
+    let u = performed histories (map Tell a.events ++ closing a.closes) replied in
+    let first = said_queued (FitsTo f) from ready.now.link m rest ready refl
+    (queued_as (FitsTo f) from from ready refl refl refl refl (nothing_queued (FitsTo f) from)) in
+    followed from u (ends_seen FitsTo f from u
+    (after_answer (λ (t : Session). Queued (FitsTo f) from t × EndsAt f (snapshot_of t.now))
+    (λ k t h. (queued_as (FitsTo f) from (on (Some k) t) (performed_on HangUp (on (Some k) t)) refl refl refl refl h.0, h.1))
+    a.events a.closes replied (acts_queued (FitsTo f) (EndsAt f) (map Tell a.events) from replied
+    (plain_show f a.events (snapshot_of replied.now) (ap sight (said_snapshot ready.now.link m rest ready)) plain) first)))
+
+-- ---- a turn
+
+turns_follow : (file : Option (List ℕ)) → ByTurn file (λ s t. OwesOf (program_of s) → IsFollowed s t)
+turns_follow file = record {
+  stays = λ s _. followed s s (nothing_queued (FitsTo (seen_now s)) s);
+  answers = λ l p rest s nothing _.
+      let t = on_with (Some l) (p ∷ rest) s in
+      answering_told l p rest s (answer_to t.now l.terms file p) (answer_is_mild t.now l.terms file p nothing).1;
+  tells = λ l p tick s is e owes.
+      let t = on (Some l) s in
+      let runs : OwesRunning p = subst OwesOf is owes in
+      (tells_follow t t p tick is (runs (λ none. never tick (sym none ∙ e))) (nothing_queued (PrintsTo (seen_now t)) t)).told;
+}
+
+pub turn_told : (s : Session) (file : Option (List ℕ)) → OwesOf (program_of s) → IsFollowed s (Effect s (Turn file))
+turn_told s file = by_turn file (λ s t. OwesOf (program_of s) → IsFollowed s t) (turns_follow file) s.now.link s

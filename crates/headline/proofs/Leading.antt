@@ -1,157 +1,99 @@
--- What a program does and tells, act by act: each thing that is told is so, and in the end what is known fits.
-use Rattle.headline.proofs.Common.{[], Act, Active, ap, Become, Bool, concludes, cond, Configuring, ended, Ended as HasEnded, Event as Told, exit_events, exits, Facts, false, Fresh, halts, happened, HasEnded as HasEndedSo, Holds, HoldsRun, in_state, Initialized, is_active, is_active_in, is_running, Left, List, logged, map, None, Now, Numbers, Option, Outcome as CameTo, output_events, Phase, Program, refl, Run, Running, RunState, shown_by, shown_of, Some, state_of, stop_event, stopped, Stopped as HasStopped, subst, sym, Tell, telling, tells, Terms, Tick, told, true, Unknown, Went, Why, ℕ, ℤ, ⊤, ◌++◌, ◌∙◌, ◌∷◌, ◌≡◌}
+-- What a program does and tells, act by act, and what an answer does: each thing that is told is so, and in the end what is
+-- known fits.
+use Rattle.headline.proofs.Common.{[], Act, Active, answered, Answering, Asked, Become, Bool, BoundsIn, Command, concludes, cond, Configuring, demand_of, ended, Ended as HasEnded, Event, Event as Told, exit_events, Facts, false, given_of, happened, HasEnded as HasEndedSo, Holds, HoldsRun, if_keeps, in_state, is_active, is_active_in, is_running, is_taken_in, List, log_event, logged, map, MatchOption, Meets, None, Now, Numbers, Option, OrderlyIn, Outcome as CameTo, output_events, Phase, Program, refl, Refusal, refusing, Run, run_of, Running, runs, RunState, shown_by, shown_of, Some, state_of, stop_event, stopped, Stopped as HasStopped, subst, sym, Tell, telling, Terms, Tick, told, true, Unknown, Went, Why, ℕ, ℤ, ⊤, ◌++◌, ◌∙◌, ◌∷◌, ◌≡◌}
+use Rattle.replies.specs.declared.event.Event.TheVariants as event
 use Rattle.debuggee.specs.declared.run.Run.TheVariants as a_run
 use Rattle.debuggee.specs.declared.run.Why.TheVariants as why
 use Rattle.facts.specs.declared.run.RunState.TheVariants.{Stopped, Ended}
-use Rattle.replies.specs.declared.event.Event.TheVariants as event
-use Rattle.headline.proofs.Agreeing.{Agrees, IsQuiet, SuitsPhase, holds_in, holds_moving, no_stand_in, none_numbered, nothing_holds}
-use Rattle.headline.proofs.Outputs.{AreOutput, IsOutput, tick_is_output}
+use Rattle.range_laws.specs.Requests.{GivesBytes}
+use Rattle.session.specs.References.{referred}
+use Rattle.headline.proofs.Agreeing.{Agrees, ended_agrees, in_agrees, IsQuiet, moving_agrees, nothing_holds, OwesNothing, SameBreaks, suits_as, SuitsPhase}
+use Rattle.headline.proofs.Remembering.{refused_tells}
+
+-- What holds of no event, and with each event of output more, holds of the output of a tick.
+module _ (P : List Event → Type 0) (none : P []) (more : (body : _) (es : List Event) → P es → P (event.Output body ∷ es)) where
+  by_logs : (texts : List (List ℕ)) → P (map log_event texts)
+  by_logs [] = none
+  by_logs (text ∷ texts) = more _ (map log_event texts) (by_logs texts)
+
+  pub by_output : (printed : Option ℤ) (texts : List (List ℕ)) → P (output_events printed texts)
+  by_output None texts = by_logs texts
+  by_output (Some number) texts = more _ (map log_event texts) (by_logs texts)
+
+-- output is told of a program that runs
+abbrev pub Prints : Told → Option Program → Type 0
+Prints (event.Output output) program = MatchOption program ⊥ (λ p. is_running p.run ≡ true)
+Prints _ program = ⊤
 
 -- what these acts tell is so, and what is known after them fits
 unfoldable pub Leads : Terms → Numbers → Facts → Option Program → List Act → Type 0
 Leads terms numbers f program [] = Agrees f program numbers terms
 Leads terms numbers f program (Become d ∷ acts) = Leads terms numbers f d.program acts
 Leads terms numbers f program (Tell event ∷ acts) =
-    Holds (happened event f) (shown_by program numbers) × Leads terms numbers (happened event f) program acts
+    (Holds (happened event f) (shown_by program numbers) × Prints event program) × Leads terms numbers (happened event f) program acts
 Leads terms numbers f program (act ∷ acts) = ⊥
 
--- what is told is so, and leaves what is known then
-unfoldable pub AllTold : Numbers → Facts → Option Program → List Told → Type 0
-AllTold numbers f program [] = ⊤
-AllTold numbers f program (e ∷ es) = Holds (happened e f) (shown_by program numbers) × AllTold numbers (happened e f) program es
-
-abbrev pub after_told : Facts → List Told → Facts
-after_told f [] = f
-after_told f (e ∷ es) = after_told (happened e f) es
-
-told_lead : (terms : Terms) (numbers : Numbers) (f : Facts) (program : Option Program) (events : List Told) (acts : List Act)
-    → AllTold numbers f program events → Leads terms numbers (after_told f events) program acts
-    → Leads terms numbers f program (map Tell events ++ acts)
-unfolding Leads AllTold
-told_lead terms numbers f program [] acts h rest = rest
-told_lead terms numbers f program (e ∷ es) acts h rest = (h.0, told_lead terms numbers (happened e f) program es acts h.1 rest)
+-- what is known is so, and so is what is told then
+abbrev pub SoThenLeads : Terms → Numbers → Option Program → List Told → Facts → Type 0
+SoThenLeads terms numbers program events f = Holds f (shown_by program numbers) × Leads terms numbers f program (map Tell events)
 
 -- ---- a program stops, or ends
-
-is_that : {A : Type 0} → {x y : A} → Some x ≡ Some y → x ≡ y
-is_that e = cc
 
 -- what is known of a program that runs suits it once it is in another state that nobody is told of
 quiet_holds : (run : RunState) (so now : RunState) → IsQuiet run → HoldsRun run so → so ≡ Running → HoldsRun run now
 quiet_holds Unknown so now q h e = tt
-quiet_holds Running so now q h e = absurd q
-quiet_holds Stopped so now q h e = absurd q
 quiet_holds (Ended None) so now q h e = absurd (subst HasEndedSo e h)
 quiet_holds (Ended (Some code)) so now q h e = absurd (let no : Ended (Some code) ≡ Running = sym h ∙ e in cc)
+quiet_holds _ so now q h e = absurd q
 
 -- it is the same program, but for how it runs
-pub record SameBut (p q : Program) : Type 0 where
-  pub source : (numbers : Numbers) (path : List ℕ) → (shown_of p numbers).source path ≡ (shown_of q numbers).source path
-  pub instructions : (numbers : Numbers) → (shown_of p numbers).instructions ≡ (shown_of q numbers).instructions
-  pub functions : (numbers : Numbers) → (shown_of p numbers).functions ≡ (shown_of q numbers).functions
+abbrev pub SameBut : Program → Program → Type 0
+SameBut p q = (numbers more : Numbers) → SameBreaks (shown_of p numbers) (shown_of q more)
 
-running_state : (run : Run) → is_running run ≡ true → state_of run ≡ Running
+pub running_state : (run : Run) → is_running run ≡ true → state_of run ≡ Running
 running_state a_run.Running e = refl
-running_state (a_run.Stopped why) e = absurd (let no : false ≡ true = e in cc)
-running_state (a_run.Ended code) e = absurd (let no : false ≡ true = e in cc)
+running_state _ e = absurd (let no : false ≡ true = e in cc)
 
 -- nobody is told: what is known fits still
-silent : (f : Facts) (p q : Program) (numbers : Numbers) (terms : Terms) → (phase : Phase) → SuitsPhase phase terms.launched f
-    → (phase ≡ Active → ⊥) → is_running p.run ≡ true → SameBut p q
-    → Holds f (shown_of p numbers) → Holds f (shown_of q numbers)
-silent f p q numbers terms Fresh suits other runs same h =
-    subst (λ (g : Facts). Holds g (shown_of q numbers)) (sym suits) (nothing_holds (shown_of q numbers))
-silent f p q numbers terms Initialized suits other runs same h =
-    subst (λ (g : Facts). Holds g (shown_of q numbers)) (sym suits) (nothing_holds (shown_of q numbers))
-silent f p q numbers terms Configuring suits other runs same h =
-    holds_moving f (shown_of p numbers) (shown_of q numbers) suits.stand h
-    (quiet_holds f.run (state_of p.run) (state_of q.run) suits.quiet h.run (running_state p.run runs)) (same.source numbers)
-    (same.instructions numbers) (same.functions numbers)
-silent f p q numbers terms Active suits other runs same h = absurd (other refl)
-silent f p q numbers terms Left suits other runs same h =
-    subst (λ (g : Facts). Holds g (shown_of q numbers)) (sym suits) (nothing_holds (shown_of q numbers))
-
-silent_agrees : (f : Facts) (p q : Program) (numbers : Numbers) (terms : Terms) → (terms.phase ≡ Active → ⊥) → is_running p.run ≡ true
+silent_agrees : (f : Facts) (p q : Program) (numbers : Numbers) (terms : Terms) → is_active_in terms.phase ≡ false → is_running p.run ≡ true
     → SameBut p q → Agrees f (Some p) numbers terms → Agrees f (Some q) numbers terms
 silent_agrees f p q numbers terms other runs same h = record {
-  holds = silent f p q numbers terms terms.phase h.phase other runs same h.holds;
+  holds = by terms.phase other h.phase;
   moving = λ _. h.moving runs;
   numbered = h.numbered;
   phase = h.phase;
-}
-
--- the phase of an editor that said all
-no_other : (phase : Phase) → is_active_in phase ≡ false → phase ≡ Active → ⊥
-no_other phase none is = absurd (let no : true ≡ false = sym (ap is_active_in is) ∙ none in cc)
-
-pub suits_as : (phase : Phase) (launched : Bool) (f g : Facts) → is_active_in phase ≡ true → g.launched ≡ f.launched
-    → SuitsPhase phase launched f → SuitsPhase phase launched g
-suits_as Active launched f g e same h = same ∙ h
-suits_as Left launched f g e same h = absurd (let no : false ≡ true = e in cc)
-suits_as _ launched f g e same h = absurd (let no : false ≡ true = e in cc)
+} where
+  by : (phase : Phase) → is_active_in phase ≡ false → SuitsPhase phase terms.launched f → Holds f (shown_of q numbers)
+  by Configuring other suits =
+      (moving_agrees f (shown_of p numbers) q numbers (record terms { phase = Configuring }) suits.stand h.holds (same numbers numbers)
+      (quiet_holds f.run (state_of p.run) (state_of q.run) suits.quiet h.holds.run (running_state p.run runs)) suits).holds
+  by Active other suits = absurd (let no : true ≡ false = other in cc)
+  by _ other suits = subst (λ (g : Facts). Holds g (shown_of q numbers)) (sym suits) (nothing_holds false (shown_of q numbers))
 
 module _ (terms : Terms) (numbers : Numbers) (f : Facts) where
-  stops_lead : (p : Program) (why : Why) (ids : List ℕ) (told : Bool) → is_active_in terms.phase ≡ told → is_running p.run ≡ true
+  pub stops_lead : (p : Program) (why : Why) (ids : List ℕ) (told : Bool) → is_active_in terms.phase ≡ told → is_running p.run ≡ true
       → Agrees f (Some p) numbers terms
       → Leads terms numbers f (Some (stopped why p)) (cond told (map Tell (stop_event why ids ∷ [])) [])
   unfolding Leads
   stops_lead p why ids true e runs h =
-      let so = shown_of p numbers in
-      let holds = holds_in Stopped f so (shown_of (stopped why p) numbers) h.holds refl (λ _. refl) refl refl in (
-        holds,
-        record {
-          holds = holds;
-          moving = λ _. no_stand_in Stopped f;
-          numbered = none_numbered numbers (in_state Stopped f) (no_stand_in Stopped f);
-          phase = suits_as terms.phase terms.launched f (in_state Stopped f) e refl h.phase;
-        },
-      )
+      let a = in_agrees Stopped f (shown_of p numbers) (stopped why p) numbers terms h.holds
+      (record { source = λ _. refl; instructions = refl; functions = refl }) refl
+      (suits_as terms.phase terms.launched f (in_state Stopped f) e refl h.phase) in
+      ((a.holds, tt), a)
   stops_lead p why ids false e runs h =
-      silent_agrees f p (stopped why p) numbers terms (no_other terms.phase e) runs
-      (record { source = λ _ _. refl; instructions = λ _. refl; functions = λ _. refl }) h
+      silent_agrees f p (stopped why p) numbers terms e runs (λ _ _. record { source = λ _. refl; instructions = refl; functions = refl }) h
 
-  pub halts_lead : (now : Now) (p : Program) (why : Why) (ids : List ℕ) → is_active_in terms.phase ≡ is_active now.link
-      → is_running p.run ≡ true → Agrees f (Some p) numbers terms
-      → Leads terms numbers f now.debuggee.program (halts now p why ids)
-  unfolding Leads
-  halts_lead now p why ids e runs h = stops_lead p why ids (is_active now.link) e runs h
-
-  ends_lead : (p : Program) (code : ℤ) (told : Bool) → is_active_in terms.phase ≡ told → is_running p.run ≡ true
+  pub ends_lead : (p : Program) (code : ℤ) (told : Bool) → is_active_in terms.phase ≡ told → is_running p.run ≡ true
       → Agrees f (Some p) numbers terms
       → Leads terms numbers f (Some (ended (Some code) p)) (cond told (map Tell (exit_events code)) [])
   unfolding Leads
   ends_lead p code true e runs h =
-      let g : Facts = record f { run = Ended (Some code) } in
-      let holds : Holds g (shown_of (ended (Some code) p) numbers) = record {
-        run = refl;
-        source = h.holds.source;
-        instructions = h.holds.instructions;
-        functions = h.holds.functions;
-        frame = h.holds.frame;
-        register = h.holds.register;
-        byte = h.holds.byte;
-      } in
-      let none = h.moving runs in (
-        holds,
-        (
-          holds,
-          record {
-            holds = holds;
-            moving = λ _. record { frame = none.frame; register = none.register; byte = none.byte };
-            numbered = h.numbered;
-            phase = suits_as terms.phase terms.launched f g e refl h.phase;
-          },
-        ),
-      )
+      let a = ended_agrees (Some code) f p numbers terms refl
+      (suits_as terms.phase terms.launched f (record f { run = Ended (Some code) }) e refl h.phase) h in
+      ((a.holds, tt), ((a.holds, tt), a))
   ends_lead p code false e runs h =
-      silent_agrees f p (ended (Some code) p) numbers terms (no_other terms.phase e) runs
-      (record { source = λ _ _. refl; instructions = λ _. refl; functions = λ _. refl }) h
-
-  pub exits_lead : (now : Now) (p : Program) (code : ℤ) → is_active_in terms.phase ≡ is_active now.link → is_running p.run ≡ true
-      → Agrees f (Some p) numbers terms
-      → Leads terms numbers f now.debuggee.program (exits now p code)
-  unfolding Leads
-  exits_lead now p code e runs h = ends_lead p code (is_active now.link) e runs h
+      silent_agrees f p (ended (Some code) p) numbers terms e runs
+      (λ _ _. record { source = λ _. refl; instructions = refl; functions = refl }) h
 
   concludes_lead : (now : Now) (p : Program) (outcome : CameTo) (ids : List ℕ) → is_active_in terms.phase ≡ is_active now.link
       → is_running p.run ≡ true → Agrees f (Some p) numbers terms
@@ -162,39 +104,44 @@ module _ (terms : Terms) (numbers : Numbers) (f : Facts) where
   concludes_lead now p (HasEnded code) ids e runs h = ends_lead p code (is_active now.link) e runs h
 
   -- output tells nothing that an editor would conclude from
-  output_leads : (event : Told) (program : Option Program) (acts : List Act) → IsOutput event → Holds f (shown_by program numbers)
-      → Leads terms numbers f program acts → Leads terms numbers f program (Tell event ∷ acts)
-  unfolding Leads
-  output_leads (event.Output body) program acts is h rest = (h, rest)
-  output_leads event.Initialized program acts is h rest = absurd (let no : false ≡ true = is in cc)
-  output_leads (event.Stopped body) program acts is h rest = absurd (let no : false ≡ true = is in cc)
-  output_leads event.Continued program acts is h rest = absurd (let no : false ≡ true = is in cc)
-  output_leads (event.Exited body) program acts is h rest = absurd (let no : false ≡ true = is in cc)
-  output_leads event.Terminated program acts is h rest = absurd (let no : false ≡ true = is in cc)
-
-  all_output_leads : (events : List Told) (program : Option Program) (acts : List Act) → AreOutput events
-      → Holds f (shown_by program numbers) → Leads terms numbers f program acts → Leads terms numbers f program (map Tell events ++ acts)
-  all_output_leads [] program acts are h rest = rest
-  all_output_leads (e ∷ es) program acts are h rest =
-      output_leads e program (map Tell es ++ acts) are.0 h (all_output_leads es program acts are.1 h rest)
-
-  outputs_lead : (now : Now) (events : List Told) (program : Option Program) (acts : List Act) → AreOutput events
-      → Holds f (shown_by program numbers) → Leads terms numbers f program acts → Leads terms numbers f program (tells now events ++ acts)
-  outputs_lead now events program acts are h rest = by (is_active now.link) where
-    by : (told : Bool) → Leads terms numbers f program (cond told (map Tell events) [] ++ acts)
-    by true = all_output_leads events program acts are h rest
-    by false = rest
-
-  -- that of a program which told what it owed
-  pub told_agrees : (p : Program) → Agrees f (Some p) numbers terms → Agrees f (Some (told p)) numbers terms
-  told_agrees p h = record { holds = h.holds; moving = h.moving; numbered = h.numbered; phase = h.phase }
-
   pub telling_leads : (now : Now) (p : Program) (tick : Tick) → is_active_in terms.phase ≡ is_active now.link → is_running p.run ≡ true
       → Agrees f (Some p) numbers terms
       → Leads terms numbers f now.debuggee.program (telling now p tick)
   unfolding Leads
   telling_leads now p tick e runs h =
-      let t = told_agrees p h in
-      let texts = logged p.machine.lists in
-      outputs_lead now (output_events tick.printed texts) (Some (told p)) (concludes now (told p) tick.outcome p.machine.lists.ids)
-      (tick_is_output tick.printed texts) t.holds (concludes_lead now (told p) tick.outcome p.machine.lists.ids e runs t)
+      let q : Program = told p in
+      let a : Agrees f (Some q) numbers terms = record { holds = h.holds; moving = h.moving; numbered = h.numbered; phase = h.phase } in
+      let acts : List Act = concludes now q tick.outcome p.machine.lists.ids in
+      let rest = concludes_lead now q tick.outcome p.machine.lists.ids e runs a in
+      if_keeps (λ (x : List Act). Leads terms numbers f (Some q) (x ++ acts)) (is_active now.link) _ []
+      (λ _. by_output (λ (es : List Told). Leads terms numbers f (Some q) (map Tell es ++ acts)) rest (λ body es more. ((a.holds, runs), more))
+      tick.printed (logged p.machine.lists)) (λ _. rest)
+
+-- ---- an answer
+
+-- an answer is so, and so is what is told after it
+abbrev pub AnswerLeads : Now → Facts → Option Asked → Answering → Type 0
+AnswerLeads now f asked a =
+    SoThenLeads a.terms (referred a.references now.numbers) a.debuggee.program a.events (answered asked a.outcome f)
+
+-- an answer after which nothing is told
+pub alone : (f : Facts) (program : Option Program) (numbers : Numbers) (terms : Terms) → Agrees f program numbers terms
+    → SoThenLeads terms numbers program [] f
+unfolding Leads
+alone f program numbers terms h = (h.holds, h)
+
+-- a refusal tells nothing
+pub refusal_leads : (now : Now) (terms : Terms) (f : Facts) (asked : Option Asked) (refusal : Refusal) (text : Option (List ℕ))
+    → Agrees f now.debuggee.program now.numbers terms → AnswerLeads now f asked (refusing (given_of now) terms refusal text)
+refusal_leads now terms f asked refusal text h =
+    subst (SoThenLeads terms now.numbers now.debuggee.program []) (sym (refused_tells asked refusal text f))
+    (alone f now.debuggee.program now.numbers terms h)
+
+-- what a success comes from: the request comes as it may, and the program is as it asks
+pub record Comes (now : Now) (terms : Terms) (command : Command) : Type 0 where
+  pub taken : is_taken_in terms.phase command ≡ true
+  pub meets : Meets (run_of now.debuggee.program) (demand_of command)
+  pub orderly : OrderlyIn now.debuggee
+  pub bounds : BoundsIn now
+  pub bytes : GivesBytes command
+  pub owes : OwesNothing now.debuggee.program

@@ -2,84 +2,106 @@
 --
 -- What could be seen when a message was queued can still be seen at the end, with one exception: what the program
 -- printed, and what its logpoints say, was told while it ran, and it may have stopped since.
-use Rattle.headline.proofs.Common.{[], Act, All, All-cons, All-head, All-nil, All-push, All-tail, ap, append-nil, append_assoc, as_running, Become, becomes, Bool, Debuggee, ended, Event, exit_events, exits, false, Fits, halts, histories, if_keeps, is_active, is_running, IsFollowed, Life, Link, List, ltb, map, Message, Newly, None, Now, Numbers, on, Option, Pending, performed, performed_on, Program, refl, Run, Running, Said, said_next, said_on, says_output, seen_at, seen_now, Session, shown_of, sight, Sight, sight_by, Snapshot, snapshot_of, Some, state_of, stop_event, stopped, subst, sym, Tell, tells, true, Why, ℕ, ℤ, ◌++◌, ◌∙◌, ◌∷◌, ◌≡◌}
-use Rattle.std.proofs.Common.{is_some}
-use Rattle.debuggee.specs.declared.run.Run.TheVariants as a_run
+use Rattle.headline.proofs.Common.{[], Act, All, All-head, All-nil, All-push, All-tail, All-weaker, ap, append-nil, append_assoc, as_running, Become, becomes, Bool, Event, false, histories, if_keeps, is_active, is_running, is_some, IsEvent, IsFollowed, Life, Link, List, ltb, map, Message, None, Now, Numbers, on, Option, output_events, Pending, performed, performed_on, Program, refl, Said, said_next, said_on, says_output, seen_at, seen_now, Session, shown_of, sight, Sight, sight_by, Snapshot, snapshot_of, Some, subst, sym, Tell, tells, true, ℕ, ℤ, ◌++◌, ◌∙◌, ◌∷◌, ◌≡◌}
 use Rattle.replies.specs.declared.event.Event.TheVariants as event
-use Rattle.replies.specs.declared.message.Message.TheVariants.{Event as IsEvent}
-use Rattle.headline.proofs.Outputs.{AreOutput, IsOutput}
+use Rattle.headline.proofs.Owing.{Plain}
+use Rattle.headline.proofs.Leading.{by_output, running_state}
 
--- all that was queued is what the program printed, and what its logpoints say
-pub record Printed (s t : Session) : Type 0 where
+-- these messages were queued between two times, and nothing else happened to the lives
+pub record Grows (s t : Session) (news : List Said) : Type 0 where
+  pub life : t.life ≡ record s.life { said = s.life.said ++ news }
+  pub before : t.before ≡ s.before
+  pub connections : t.now.connections ≡ s.now.connections
+  pub linked : is_some t.now.link ≡ is_some s.now.link
+  pub silent : is_some s.now.link ≡ false → news ≡ []
+
+-- some were, and this is so of each, by what could be seen then
+pub record Queued (R : Message → Snapshot → Type 0) (s t : Session) : Type 0 where
   pub news : List Said
-  pub newly : Newly s t news
-  pub output : All (λ (m : Said). says_output m.message ≡ true) news
+  pub grows : Grows s t news
+  pub all : All (λ (m : Said). R m.message m.snapshot) news
 
-pub just_told : (s t : Session) → Printed s t → IsFollowed s t
-just_told s t h = record { news = h.news; newly = h.newly }
+-- what could be seen is this, at last
+abbrev pub FitsTo : Sight → Message → Snapshot → Type 0
+FitsTo f m seen = sight seen ≡ seen_at (says_output m) f
 
--- nothing more was said
-pub same_life : (s : Session) → s.life ≡ record s.life { said = s.life.said ++ [] }
-same_life s = ap (λ (l : List Said). record s.life { said = l }) (sym (append-nil s.life.said))
+-- and it is what the program printed, or what its logpoints say
+abbrev pub PrintsTo : Sight → Message → Snapshot → Type 0
+PrintsTo f m seen = (says_output m ≡ true) × (sight seen ≡ as_running f)
 
-pub nothing_newly : (s : Session) → Printed s s
-nothing_newly s = record {
+-- all that was queued is such
+abbrev pub Printed : Session → Session → Type 0
+Printed s t = Queued (PrintsTo (seen_now t)) s t
+
+pub followed : (s t : Session) → Queued (FitsTo (seen_now t)) s t → IsFollowed s t
+followed s t q = record { news = q.news; newly = assumption }
+
+pub weaker : (Q R : Message → Snapshot → Type 0) (s t : Session) → ((m : Message) (seen : Snapshot) → Q m seen → R m seen) → Queued Q s t
+    → Queued R s t
+weaker Q R s t f q = record {
+  news = q.news;
+  grows = q.grows;
+  all = All-weaker (λ (m : Said). Q m.message m.snapshot) (λ (m : Said). R m.message m.snapshot) (λ m. f m.message m.snapshot) q.news q.all;
+}
+
+pub printed_fits : (s t : Session) (f : Sight) → as_running (seen_now t) ≡ as_running f → Printed s t → Queued (FitsTo f) s t
+printed_fits s t f same =
+    weaker (PrintsTo (seen_now t)) (FitsTo f) s t (λ m seen h. h.1 ∙ same ∙ ap (λ (b : Bool). seen_at b f) (sym h.0))
+
+pub printed_still : (s t : Session) (f : Sight) → as_running (seen_now t) ≡ as_running f → Printed s t → Queued (PrintsTo f) s t
+printed_still s t f same = weaker (PrintsTo (seen_now t)) (PrintsTo f) s t (λ m seen h. (h.0, h.1 ∙ same))
+
+pub nothing_queued : (R : Message → Snapshot → Type 0) (s : Session) → Queued R s s
+nothing_queued R s = record {
   news = [];
-  newly = record {
-    life = same_life s;
+  grows = record {
+    life = ap (λ (l : List Said). record s.life { said = l }) (sym (append-nil s.life.said));
     before = refl;
     connections = refl;
     linked = refl;
     silent = λ _. refl;
-    fits = All-nil (Fits s);
   };
-  output = All-nil (λ (m : Said). says_output m.message ≡ true);
+  all = All-nil (λ (m : Said). R m.message m.snapshot);
 }
 
--- ---- a message is queued
+-- what happens on a connection but for messages
+pub queued_as : (R : Message → Snapshot → Type 0) (s t u : Session) → u.life ≡ t.life → u.before ≡ t.before
+    → u.now.connections ≡ t.now.connections → is_some u.now.link ≡ is_some t.now.link → Queued R s t → Queued R s u
+queued_as R s t u life before connections linked q =
+    let g = q.grows in
+    let there : Grows s u q.news = record {
+      life = life ∙ g.life;
+      before = before ∙ g.before;
+      connections = connections ∙ g.connections;
+      linked = linked ∙ g.linked;
+      silent = g.silent;
+    } in
+    record { news = q.news; grows = there; all = q.all }
 
--- what can be seen now is what could be seen at such a message
-abbrev Sayable : Session → Message → Type 0
-Sayable t m = seen_now t ≡ seen_at (says_output m) (seen_now t)
+-- ---- acts that make or tell something of the program
 
-with_one : (s t : Session) (news : List Said) (l : Link) (m : Message) (rest : List Pending) → Sayable (on (Some l) t) m
-    → Newly s (on (Some l) t) news
-    → (new : Session) → new.life ≡ record t.life { said = t.life.said ++ said_next t.now l m ∷ [] } → new.before ≡ t.before
-    → new.now.connections ≡ t.now.connections → is_some new.now.link ≡ true → snapshot_of new.now ≡ snapshot_of t.now
-    → Newly s new (news ++ said_next t.now l m ∷ [])
-with_one s t news l m rest so h new life before connections linked same = record {
-  life = life
-      ∙ ap (λ (x : Life). record x { said = x.said ++ said_next t.now l m ∷ [] }) h.life
-      ∙ ap (λ (x : List Said). record s.life { said = x }) (append_assoc s.life.said news (said_next t.now l m ∷ []));
-  before = before ∙ h.before;
-  connections = connections ∙ h.connections;
-  linked = linked ∙ h.linked;
-  silent = λ none. absurd (let no : true ≡ false = h.linked ∙ none in cc);
-  fits =
-      subst (λ (f : Sight). All (λ (x : Said). sight x.snapshot ≡ seen_at (says_output x.message) f) (news ++ said_next t.now l m ∷ []))
-      (ap sight (sym same))
-      (All-push (Fits t) news (said_next t.now l m) h.fits so);
-}
-
-pub said_told : (s t : Session) (l : Option Link) (m : Message) (rest : List Pending) → Sayable (on l t) m → IsFollowed s (on l t)
-    → IsFollowed s (said_on l m rest (on l t))
-said_told s t None m rest so h = h
-said_told s t (Some l) m rest so h =
-    if_keeps (IsFollowed s) (ltb l.seq t.now.limits.last_seq) _ _
-    (λ _. record { news = h.news ++ said_next t.now l m ∷ []; newly = with_one s t h.news l m rest so h.newly _ refl refl refl refl refl })
-    (λ _. h)
-
-pub said_printed : (s t : Session) (l : Option Link) (m : Message) (rest : List Pending) → says_output m ≡ true → Sayable (on l t) m
-    → Printed s (on l t) → Printed s (said_on l m rest (on l t))
-said_printed s t None m rest e so h = h
-said_printed s t (Some l) m rest e so h =
-    if_keeps (Printed s) (ltb l.seq t.now.limits.last_seq) _ _
+-- a message is queued
+pub said_queued : (R : Message → Snapshot → Type 0) (s : Session) (l : Option Link) (m : Message) (rest : List Pending) (t : Session)
+    → R m (snapshot_of t.now) → Queued R s (on l t) → Queued R s (said_on l m rest (on l t))
+said_queued R s None m rest t so q = q
+said_queued R s (Some l) m rest t so q =
+    let new : Said = said_next t.now l m in
+    let g = q.grows in
+    if_keeps (Queued R s) (ltb l.seq t.now.limits.last_seq) _ _
     (λ _. record {
-      news = h.news ++ said_next t.now l m ∷ [];
-      newly = with_one s t h.news l m rest so h.newly _ refl refl refl refl refl;
-      output = All-push (λ (m : Said). says_output m.message ≡ true) h.news (said_next t.now l m) h.output e;
+      news = q.news ++ new ∷ [];
+      grows = record {
+        life =
+            ap (λ (x : Life). record x { said = x.said ++ new ∷ [] }) g.life
+            ∙ ap (λ (x : List Said). record s.life { said = x }) (append_assoc s.life.said q.news (new ∷ []));
+        before = g.before;
+        connections = g.connections;
+        linked = g.linked;
+        silent = λ none. absurd (let no : true ≡ false = g.linked ∙ none in cc);
+      };
+      all = All-push (λ (m : Said). R m.message m.snapshot) q.news new q.all so;
     })
-    (λ _. h)
+    (λ _. q)
 
 pub said_snapshot : (l : Option Link) (m : Message) (rest : List Pending) (t : Session)
     → snapshot_of (said_on l m rest (on l t)).now ≡ snapshot_of t.now
@@ -87,135 +109,67 @@ said_snapshot None m rest t = refl
 said_snapshot (Some l) m rest t =
     if_keeps (λ (x : Session). snapshot_of x.now ≡ snapshot_of t.now) (ltb l.seq t.now.limits.last_seq) _ _ (λ _. refl) (λ _. refl)
 
--- ---- events are told
+-- what such acts tell is so by what can be seen then, and so is in the end what can be seen
+unfoldable pub Shows : (Message → Snapshot → Type 0) → (Snapshot → Type 0) → Snapshot → List Act → Type 0
+Shows R E seen [] = E seen
+Shows R E seen (Become d ∷ acts) = Shows R E (record seen { debuggee = d }) acts
+Shows R E seen (Tell e ∷ acts) = R (IsEvent e) seen × Shows R E seen acts
+Shows R E seen (act ∷ acts) = ⊥
 
-abbrev pub Plain : Event → Type 0
-Plain e = says_output (IsEvent e) ≡ false
+pub acts_queued : (R : Message → Snapshot → Type 0) (E : Snapshot → Type 0) (acts : List Act) (s t : Session)
+    → Shows R E (snapshot_of t.now) acts → Queued R s t
+    → (let u = performed histories acts t in Queued R s u × E (snapshot_of u.now))
+unfolding Shows
+acts_queued R E [] s t h q = (q, h)
+acts_queued R E (Become d ∷ acts) s t h q =
+    let u = performed_on (Become d) t in acts_queued R E acts s u h (queued_as R s t u refl refl refl refl q)
+acts_queued R E (Tell e ∷ acts) s t h q =
+    let pending = t.now.arrivals.pending in
+    acts_queued R E acts s (performed_on (Tell e) t)
+    (subst (λ (seen : Snapshot). Shows R E seen acts) (sym (said_snapshot t.now.link (IsEvent e) pending t)) h.1)
+    (said_queued R s t.now.link (IsEvent e) pending t h.0 q)
+acts_queued R E (act ∷ acts) s t h q = absurd h
 
-plain_sayable : (t : Session) (e : Event) → Plain e → Sayable t (IsEvent e)
-plain_sayable t e plain = ap (λ (b : Bool). seen_at b (seen_now t)) (sym plain)
+-- in the end this can be seen
+abbrev pub EndsAt : Sight → Snapshot → Type 0
+EndsAt f seen = sight seen ≡ f
 
-pub plain_told : (events : List Event) (s t : Session) → All Plain events → IsFollowed s t
-    → IsFollowed s (performed histories (map Tell events) t)
-plain_told [] s t plain h = h
-plain_told (e ∷ es) s t plain h =
-    plain_told es s (performed_on (Tell e) t) (All-tail Plain e es plain)
-    (said_told s t t.now.link (IsEvent e) t.now.arrivals.pending (plain_sayable t e (All-head Plain e es plain)) h)
+pub ends_seen : (R : Sight → Message → Snapshot → Type 0) (f : Sight) (s t : Session) → Queued (R f) s t × EndsAt f (snapshot_of t.now)
+    → Queued (R (seen_now t)) s t
+ends_seen R f s t h = subst (λ (x : Sight). Queued (R x) s t) (sym h.1) h.0
 
-pub tells_plain : (now : Now) (events : List Event) (s t : Session) → All Plain events → IsFollowed s t
-    → IsFollowed s (performed histories (tells now events) t)
-tells_plain now events s t plain h =
-    if_keeps (λ (acts : List Act). IsFollowed s (performed histories acts t)) (is_active now.link) _ [] (λ _. plain_told events s t plain h)
-    (λ _. h)
+pub acts_seen : (R : Sight → Message → Snapshot → Type 0) (f : Sight) (acts : List Act) (s t : Session)
+    → Shows (R f) (EndsAt f) (snapshot_of t.now) acts → Queued (R f) s t
+    → (let u = performed histories acts t in Queued (R (seen_now u)) s u)
+acts_seen R f acts s t h q = ends_seen R f s (performed histories acts t) (acts_queued (R f) (EndsAt f) acts s t h q)
 
-told_snapshot : (events : List Event) (t : Session) → snapshot_of (performed histories (map Tell events) t).now ≡ snapshot_of t.now
-told_snapshot [] t = refl
-told_snapshot (e ∷ es) t = told_snapshot es (performed_on (Tell e) t) ∙ said_snapshot t.now.link (IsEvent e) t.now.arrivals.pending t
+-- ---- what is told
 
-pub tells_snapshot : (now : Now) (events : List Event) (t : Session)
-    → snapshot_of (performed histories (tells now events) t).now ≡ snapshot_of t.now
-tells_snapshot now events t =
-    if_keeps (λ (acts : List Act). snapshot_of (performed histories acts t).now ≡ snapshot_of t.now) (is_active now.link) _ []
-    (λ _. told_snapshot events t) (λ _. refl)
+-- events that are no output are told at the end
+pub plain_show : (f : Sight) (events : List Event) (seen : Snapshot) → EndsAt f seen → All Plain events
+    → Shows (FitsTo f) (EndsAt f) seen (map Tell events)
+unfolding Shows
+plain_show f [] seen is plain = is
+plain_show f (e ∷ es) seen is plain =
+    (is ∙ ap (λ (b : Bool). seen_at b f) (sym (All-head Plain e es plain)), plain_show f es seen is (All-tail Plain e es plain))
 
--- a program that runs is seen to
-running_state : (run : Run) → is_running run ≡ true → state_of run ≡ Running
-running_state a_run.Running e = refl
-running_state (a_run.Stopped why) e = absurd (let no : false ≡ true = e in cc)
-running_state (a_run.Ended code) e = absurd (let no : false ≡ true = e in cc)
-
-seen_running : (p : Program) (numbers : Numbers) → is_running p.run ≡ true
-    → sight_by (Some p) numbers ≡ as_running (sight_by (Some p) numbers)
-seen_running p numbers e =
-    let is = running_state p.run e in λ i. record (sight_by (Some p) numbers) { facts = record (shown_of p numbers) { run = is i } }
-
--- while a program runs, what can be seen is what could be seen at each output
-output_sayable : (p : Program) (e : Event) (t : Session) → t.now.debuggee.program ≡ Some p → is_running p.run ≡ true → IsOutput e
-    → Sayable t (IsEvent e)
-output_sayable p e t is runs output =
-    subst (λ (x : Option Program). sight_by x t.now.numbers ≡ as_running (sight_by x t.now.numbers)) (sym is)
-    (seen_running p t.now.numbers runs)
-    ∙ ap (λ (b : Bool). seen_at b (seen_now t)) (sym output)
-
-output_told : (events : List Event) (p : Program) (s t : Session) → t.now.debuggee.program ≡ Some p → is_running p.run ≡ true
-    → AreOutput events → Printed s t → Printed s (performed histories (map Tell events) t)
-output_told [] p s t is runs output h = h
-output_told (e ∷ es) p s t is runs output h =
-    let stays = said_snapshot t.now.link (IsEvent e) t.now.arrivals.pending t in
-    output_told es p s (performed_on (Tell e) t) (ap (λ (x : Snapshot). x.debuggee.program) stays ∙ is) runs output.1
-    (said_printed s t t.now.link (IsEvent e) t.now.arrivals.pending output.0 (output_sayable p e t is runs output.0) h)
+-- a program becomes this, and then such events are told
+pub becomes_show : (seen : Snapshot) (now : Now) (q : Program) (events : List Event) → All Plain events
+    → (let f = sight_by (Some q) seen.numbers in Shows (FitsTo f) (EndsAt f) seen (becomes now q ∷ tells now events))
+unfolding Shows
+becomes_show seen now q events plain =
+    let f = sight_by (Some q) seen.numbers in
+    let then : Snapshot = record seen { debuggee = record now.debuggee { program = Some q } } in
+    if_keeps (Shows (FitsTo f) (EndsAt f) then) (is_active now.link) _ [] (λ _. plain_show f events then refl plain) (λ _. refl)
 
 -- output is told while it runs
-pub outputs_printed : (now : Now) (events : List Event) (p : Program) (s t : Session) → t.now.debuggee.program ≡ Some p
-    → is_running p.run ≡ true → AreOutput events → Printed s t → Printed s (performed histories (tells now events) t)
-outputs_printed now events p s t is runs output h =
-    if_keeps (λ (acts : List Act). Printed s (performed histories acts t)) (is_active now.link) _ []
-    (λ _. output_told events p s t is runs output h) (λ _. h)
+pub runs_seen : (p : Program) (numbers : Numbers) → is_running p.run ≡ true → sight_by (Some p) numbers ≡ as_running (sight_by (Some p) numbers)
+runs_seen p numbers e =
+    let is = running_state p.run e in λ i. record (sight_by (Some p) numbers) { facts = record (shown_of p numbers) { run = is i } }
 
--- ---- the program changes
-
--- two are the same to see, but for how they run
-abbrev pub Same : Option Program → Option Program → Type 0
-Same a b = (numbers : Numbers) → as_running (sight_by a numbers) ≡ as_running (sight_by b numbers)
-
-all_same : (f g : Sight) → as_running f ≡ as_running g → (news : List Said) → All (λ (m : Said). says_output m.message ≡ true) news
-    → All (λ (m : Said). sight m.snapshot ≡ seen_at (says_output m.message) f) news
-    → All (λ (m : Said). sight m.snapshot ≡ seen_at (says_output m.message) g) news
-all_same f g same [] output h = All-nil (λ (m : Said). sight m.snapshot ≡ seen_at (says_output m.message) g)
-all_same f g same (m ∷ news) output h =
-    let is = All-head (λ (m : Said). says_output m.message ≡ true) m news output in
-    All-cons (λ (m : Said). sight m.snapshot ≡ seen_at (says_output m.message) g) m news
-    (All-head (λ (m : Said). sight m.snapshot ≡ seen_at (says_output m.message) f) m news h
-    ∙ ap (λ (b : Bool). seen_at b f) is ∙ same ∙ ap (λ (b : Bool). seen_at b g) (sym is))
-    (all_same f g same news (All-tail (λ (m : Said). says_output m.message ≡ true) m news output)
-    (All-tail (λ (m : Said). sight m.snapshot ≡ seen_at (says_output m.message) f) m news h))
-
-pub became : (d : Debuggee) (s t : Session) → Same t.now.debuggee.program d.program → Printed s t → Printed s (performed_on (Become d) t)
-became d s t same h = record {
-  news = h.news;
-  newly = record {
-    life = h.newly.life;
-    before = h.newly.before;
-    connections = h.newly.connections;
-    linked = h.newly.linked;
-    silent = h.newly.silent;
-    fits = all_same (seen_now t) (seen_now (performed_on (Become d) t)) (same t.now.numbers) h.news h.output h.newly.fits;
-  };
-  output = h.output;
-}
-
--- where nothing was queued yet, whatever it becomes
-pub became_first : (d : Debuggee) (s : Session) → Printed s (performed_on (Become d) s)
-became_first d s =
-    record {
-      news = [];
-      newly =
-          record {
-            life = same_life s;
-            before = refl;
-            connections = refl;
-            linked = refl;
-            silent = λ _. refl;
-            fits = All-nil
-                (Fits (performed_on (Become d) s));
-          };
-      output = All-nil (λ (m : Said). says_output m.message ≡ true);
-    }
-
--- ---- what beats do
-
-pub halts_told : (now : Now) (p : Program) (reason : Why) (ids : List ℕ) (s t : Session) → Same t.now.debuggee.program (Some p)
-    → Printed s t → IsFollowed s (performed histories (halts now p reason ids) t)
-halts_told now p reason ids s t same h =
-    let u = performed_on (becomes now (stopped reason p)) t in
-    tells_plain now (stop_event reason ids ∷ []) s u (All-cons Plain (stop_event reason ids) [] refl (All-nil Plain))
-    (just_told s u (became (record now.debuggee { program = Some (stopped reason p) }) s t same h))
-
-pub exits_told : (now : Now) (p : Program) (code : ℤ) (s t : Session) → Same t.now.debuggee.program (Some p) → Printed s t
-    → IsFollowed s (performed histories (exits now p code) t)
-exits_told now p code s t same h =
-    let u = performed_on (becomes now (ended (Some code) p)) t in
-    tells_plain now (exit_events code) s u
-    (All-cons Plain (event.Exited (record { exit_code = code })) (event.Terminated ∷ []) refl
-    (All-cons Plain event.Terminated [] refl (All-nil Plain)))
-    (just_told s u (became (record now.debuggee { program = Some (ended (Some code) p) }) s t same h))
+pub output_shows : (R : Message → Snapshot → Type 0) (E : Snapshot → Type 0) (seen : Snapshot) (now : Now) (printed : Option ℤ) (texts : List (List ℕ)) (acts : List Act)
+    → ((body : _) → R (IsEvent (event.Output body)) seen) → Shows R E seen acts → Shows R E seen (tells now (output_events printed texts) ++ acts)
+unfolding Shows
+output_shows R E seen now printed texts acts each rest =
+    if_keeps (λ (x : List Act). Shows R E seen (x ++ acts)) (is_active now.link) _ []
+    (λ _. by_output (λ (es : List Event). Shows R E seen (map Tell es ++ acts)) rest (λ body es more. (each body, more)) printed texts) (λ _. rest)

@@ -1,110 +1,179 @@
--- What an editor knows was so, whatever happens: if it is so of each command.
-use Rattle.headline.proofs.Common.{[], accepting, All-head, All-nil, All-push, AllKnown, answer_to, Answering, answers_next, Ask, Asked, asks_of, beat, beat_keeps, beats, Beginning, begins_so, Bool, Both, BoundsIn, Cancelled, Connect, DropConnection, each_life, Effect, enough, eqb, Facts, Fate, first_terms, FULL, given_of, Happened, histories, Hold, holding, if_keeps, LAST_CONNECTION, leaving, leb, left, length, life_of, Link, List, ltb, marked, MOST_PENDING, MOST_PIECE, NamesNone, next_by, next_turn, None, nothing_known, Now, number_of, of_answer, on, on_program, on_with, Option, OrderlyIn, outcome_at, outcome_keeps, Pending, performed, Program, reached, Reached, read_on, Recv, refl, remembered, Repeated, Sent, Session, Slice, SliceEnd, Some, start, subst, suc, sym, telling, Terms, Tick, true, Turn, turn_by, turn_of, Waits, WhatIsKnownWasSo, with_program, zero, ℕ, ◌∙◌, ◌∷◌, ◌≡◌}
+-- What an editor knows was so, whatever happens: each message was so when it was queued, and what is known fits.
+use Rattle.headline.proofs.Common.{[], Act, All, All-head, All-nil, All-push, answer_to, Answering, answering, arith, Ask, Asked, asks_of, beat, beat_keeps, beats, Become, Beginning, begins_so, Bool, Both, BoundsIn, Debuggee, each_life, Effect, enough, Event as AnEvent, Facts, false, first_terms, folded, given_of, Happened, histories, if_keeps, IsEvent, known_after, left, Life, life_of, Link, List, ltb, ltb-false, ltb-true, map, marked, Message, None, nothing_known, Now, number_of, Numbers, on, on_program, on_with, Option, OrderlyIn, outcome_keeps, Pending, performed, PrintsRunning, Program, reached, Reached, read_on, refl, remembered, replied_on, Response as IsResponse, response_to, said_next, saying, Session, Slice, snapshot_of, Some, subst, success_of, sym, Tell, telling, Terms, WhatIsKnownWasSo, with_change, with_said, ℕ, ⊤, ◌<◌, ◌∙◌, ◌∷◌, ◌≡◌}
+use Rattle.replies.specs.declared.event.Event.TheVariants as event
+use Rattle.session.specs.References.{referred}
+use Rattle.session.specs.declared.event.Event.{Event}
 use Rattle.debuggee.specs.declared.run.Mark.TheVariants as mark
 use Rattle.session_laws.proofs.Asked.{IsRead}
 use Rattle.session.specs.Config.{first_program}
-use Rattle.session.specs.Outcomes.{Outcome}
-use Rattle.handlers.specs.Requests.{success_of}
-use Rattle.session.specs.declared.event.Event.{Event}
-use Rattle.headline.proofs.Agreeing.{Agrees, OwesOf, OwesRunning, marked_agrees, never, nothing_agrees}
+use Rattle.headline.proofs.Agreeing.{Agrees, marked_agrees, never, nothing_agrees, nothing_owed, OwesNothing, OwesOf, OwesRunning}
+use Rattle.headline.proofs.ByEvent.{after_answer, by_beats, by_event, ByEvent, ByTurn}
+use Rattle.headline.proofs.Knowing.{Knows, knows, knows_at_first, of_waiting, WaitsFirst}
+use Rattle.headline.proofs.Remembering.{all_hold_more, all_hold_same, AllHold, HoldsAfter, known_append, known_same, remembers, within_was_so}
+use Rattle.headline.proofs.Owing.{all_tell_owe, AllOwe, beat_owes, marked_owes, owes_after, telling_owes}
+use Rattle.headline.proofs.Leading.{AnswerLeads, Leads, Prints, refusal_leads, telling_leads}
 use Rattle.headline.proofs.Beating.{program_leads}
-use Rattle.headline.proofs.Commands.{AnswerLeads, CommandsLead, CommandsOwe, OwesNothing, refusal_leads}
-use Rattle.headline.proofs.Cutting.{within_was_so}
-use Rattle.headline.proofs.Faithful.{AgreesOn, Faithful, Held, answering_faithful, known, quiet_faithful, LeadsIf}
-use Rattle.headline.proofs.Knowing.{IsFirst, Knows, WaitsFirst, knows, none_said}
-use Rattle.headline.proofs.Leading.{Leads, telling_leads}
-use Rattle.headline.proofs.Owing.{beat_owes, left_owes, marked_owes, owes_after, telling_owes}
-use Rattle.headline.proofs.Remembering.{all_hold_same, known_same, remembers}
+use Rattle.headline.proofs.Leaving.{answer_is_mild, commands_lead}
 
--- ---- what leaves a session faithful that tells nothing
+-- ---- what is so of a session
 
-pub owes_nothing : (program : Option Program) → OwesNothing program → OwesOf program
-owes_nothing None e = tt
-owes_nothing (Some p) e = λ some. absurd (some e)
+-- what an editor knows on a connection
+abbrev pub known : Life → Facts
+known life = known_after (remembered life.heard) nothing_known life.said
 
-module _ (lead : CommandsLead) (owe : CommandsOwe) where
-  -- ---- an answer
+-- each message was so
+abbrev pub Held : Life → Type 0
+Held life = AllHold (remembered life.heard) nothing_known life.said
 
-  abbrev Suits : Now → List Ask → Facts → Ask → Answering → Type 0
-  Suits now asks f ask a = IsFirst asks ask → IsRead ask → AnswerLeads now f (remembered asks (number_of ask)) a
+-- what is known fits, as long as there are numbers for messages
+abbrev pub AgreesOn : Option Link → ℕ → Option Program → Numbers → Facts → Type 0
+AgreesOn None last program numbers f = ⊤
+AgreesOn (Some l) last program numbers f = l.seq < last → Agrees f program numbers l.terms
 
-  is_so : (now : Now) (terms : Terms) (file : Option (List ℕ)) (ask : Ask) (fate : Fate) (asks : List Ask) (f : Facts)
-      → OrderlyIn now.debuggee → BoundsIn now → OwesNothing now.debuggee.program
-      → Agrees f now.debuggee.program now.numbers terms
-      → Suits now asks f ask (answer_to now terms file (record { ask = ask; fate = fate }))
-  is_so now terms file ask fate asks f orderly bounds nothing h =
-      of_answer (Suits now asks f) now terms file ask fate (λ refusal _ _ _. refusal_leads now terms f _ refusal None h)
-      (λ r taken meets first read. subst (λ (x : Option Asked). AnswerLeads now f x (success_of (given_of now) terms file r.command))
-      (sym (remembers asks r.seq r first))
-      (lead now terms file r.command f
-      (record { taken = taken; meets = meets; orderly = orderly; bounds = bounds; bytes = read.1.1; owes = nothing }) h))
+-- what was told was so, whatever is known now
+pub record Was (s : Session) : Type 0 where
+  pub before : All Held s.before
+  pub present : Held s.life
+  pub owes : OwesOf s.now.debuggee.program
 
-  answer_so : (now : Now) (terms : Terms) (file : Option (List ℕ)) (ask : Ask) (fate : Fate) (asks : List Ask) (f : Facts)
-      → WaitsFirst asks (record { ask = ask; fate = fate }) → IsRead ask → OrderlyIn now.debuggee → BoundsIn now
-      → OwesNothing now.debuggee.program
-      → Agrees f now.debuggee.program now.numbers terms
-      → AnswerLeads now f (remembered asks (number_of ask)) (answer_to now terms file (record { ask = ask; fate = fate }))
-  answer_so now terms file ask Repeated asks f first read orderly bounds nothing h =
-      refusal_leads now terms f (remembered asks (number_of ask)) _ None h
-  answer_so now terms file ask Waits asks f first read orderly bounds nothing h =
-      is_so now terms file ask Waits asks f orderly bounds nothing h (first refl) read
-  answer_so now terms file ask Cancelled asks f first read orderly bounds nothing h =
-      is_so now terms file ask Cancelled asks f orderly bounds nothing h (first refl) read
-  answer_so now terms file ask NamesNone asks f first read orderly bounds nothing h =
-      is_so now terms file ask NamesNone asks f orderly bounds nothing h (first refl) read
+pub record Faithful (s : Session) : Type 0 where
+  pub was : Was s
+  pub agrees : AgreesOn s.now.link s.now.limits.last_seq s.now.debuggee.program s.now.numbers (known s.life)
 
-  answer_owes : (now : Now) (terms : Terms) (file : Option (List ℕ)) (p : Pending) → OwesNothing now.debuggee.program
-      → OwesOf (answer_to now terms file p).debuggee.program
-  answer_owes now terms file p nothing =
-      of_answer (λ ask (a : Answering). OwesOf a.debuggee.program) now terms file p.ask p.fate
-      (λ _ _. owes_nothing now.debuggee.program nothing) (λ r _ _. owe now terms file r.command nothing)
+-- ---- a message is queued
 
-  -- ---- events
+saying_was : (l : Link) (m : Message) (rest : List Pending) (s : Session)
+    → HoldsAfter (folded (remembered s.life.heard) (known s.life) m) m (snapshot_of s.now) → Was (on (Some l) s)
+    → Was (saying l m rest (on (Some l) s))
+saying_was l m rest s so h = record {
+  before = h.before;
+  present = all_hold_more (remembered s.life.heard) nothing_known s.life.said (said_next s.now l m) h.present so;
+  owes = h.owes;
+}
 
-  abbrev pub Kept : Session → Type 0
-  Kept s = Both Knows knows s
+knows_more : (s : Session) (l : Link) (m : Message)
+    → known (with_said s.life (said_next s.now l m)) ≡ folded (remembered s.life.heard) (known s.life) m
+knows_more s l m = known_append (remembered s.life.heard) nothing_known s.life.said (said_next s.now l m ∷ [])
 
-  turn_so : (l : Link) (file : Option (List ℕ)) (pending : List Pending) (s : Session) → let t =
-      on_with (Some l) pending s in Kept t → OwesNothing s.now.debuggee.program → Faithful t → Faithful
-      (performed histories (next_turn t.now l.terms file pending).acts t)
-  turn_so l file [] s k nothing h = h
-  turn_so l file (p ∷ rest) s k nothing h =
+-- ---- quiet acts
+
+abbrev pub LeadsIf : Option Link → Session → List Act → Type 0
+LeadsIf None s acts = ⊤
+LeadsIf (Some l) s acts = l.seq < s.now.limits.last_seq → Leads l.terms s.now.numbers (known s.life) s.now.debuggee.program acts
+
+too_many : {A : Type 0} (n m : ℕ) → ltb n m ≡ false → n < m → A
+too_many n m e less = let most = ltb-false n m e in absurd (omega (arith, most, less))
+
+prints : (e : AnEvent) (d : Debuggee) → Prints e d.program → PrintsRunning (IsEvent e) d
+prints (event.Output output) d h = h
+prints _ d h = tt
+
+ends_so : (l : Option Link) (s : Session) → LeadsIf l s []
+    → AgreesOn l s.now.limits.last_seq s.now.debuggee.program s.now.numbers (known s.life)
+unfolding Leads
+ends_so None s lead = tt
+ends_so (Some l) s lead = lead
+
+pub quiet_faithful : (acts : List Act) (l : Option Link) (s : Session) → AllOwe acts → LeadsIf l s acts → Was (on l s)
+    → Faithful (performed histories acts (on l s))
+unfolding AllOwe Leads
+quiet_faithful [] l s o lead h = record { was = h; agrees = ends_so l s lead }
+quiet_faithful (Become d ∷ acts) None s o lead h =
+    quiet_faithful acts None (record s { now = record s.now { debuggee = d } }) o.1 tt
+    (record { before = h.before; present = h.present; owes = o.0 })
+quiet_faithful (Become d ∷ acts) (Some l) s o lead h =
+    quiet_faithful acts (Some l) (record s { now = record s.now { debuggee = d } }) o.1 lead
+    (record { before = h.before; present = h.present; owes = o.0 })
+quiet_faithful (Tell e ∷ acts) None s o lead h = quiet_faithful acts None s o tt h
+quiet_faithful (Tell e ∷ acts) (Some l) s o lead h =
+    let t = saying l (IsEvent e) s.now.arrivals.pending (on (Some l) s) in
+    if_keeps (λ (x : Session). Faithful (performed histories acts x)) (ltb l.seq s.now.limits.last_seq) t (on (Some l) s)
+    (λ few.
+    let so = lead (ltb-true l.seq s.now.limits.last_seq few) in
+    quiet_faithful acts t.now.link t o
+    (λ _. subst (λ (g : Facts). Leads l.terms s.now.numbers g s.now.debuggee.program acts) (sym (knows_more s l (IsEvent e))) so.1)
+    (saying_was l (IsEvent e) s.now.arrivals.pending s (so.0.0, prints e s.now.debuggee so.0.1) h))
+    (λ many. quiet_faithful acts (Some l) s o (λ less. too_many l.seq s.now.limits.last_seq many less) h)
+quiet_faithful (act ∷ acts) l s o lead h = absurd o
+
+-- ---- an answer
+
+pub answering_faithful : (l : Link) (p : Pending) (rest : List Pending) (s : Session) (a : Answering) → OwesOf a.debuggee.program
+    → (l.seq < s.now.limits.last_seq → AnswerLeads s.now (known s.life) (remembered s.life.heard (number_of p.ask)) a)
+    → Was (on_with (Some l) (p ∷ rest) s) → Faithful (performed histories (answering a) (on_with (Some l) (p ∷ rest) s))
+answering_faithful l p rest s a owes lead h =
+    let k : Link = record l { terms = a.terms } in
+    let u = on_with (Some k) (p ∷ rest) (with_change a s) in
+    let m : Message = IsResponse (response_to p.ask a.outcome) in
+    let v = saying k m rest u in
+    let was : Was u = record { before = h.before; present = h.present; owes = owes } in
+    let quiet = all_tell_owe a.events in
+    after_answer Faithful
+    (λ _ _ h. record { was = record { before = h.was.before; present = h.was.present; owes = h.was.owes }; agrees = h.agrees }) a.events a.closes
+    (replied_on (p ∷ rest) a.outcome u)
+    (if_keeps (λ (x : Session). Faithful (performed histories (map Tell a.events) x)) (ltb l.seq s.now.limits.last_seq) v u
+    (λ few.
+    let so = lead (ltb-true l.seq s.now.limits.last_seq few) in
+    quiet_faithful (map Tell a.events) v.now.link v quiet
+    (λ _. subst (λ (g : Facts). Leads a.terms (referred a.references s.now.numbers) g a.debuggee.program (map Tell a.events))
+    (sym (knows_more u k m)) so.1)
+    (saying_was k m rest u (so.0, tt) was))
+    (λ many. quiet_faithful (map Tell a.events) (Some k) u quiet (λ less. too_many l.seq s.now.limits.last_seq many less) was))
+
+-- ---- an answer
+
+answer_so : (now : Now) (terms : Terms) (file : Option (List ℕ)) (p : Pending) (asks : List Ask) (f : Facts) → WaitsFirst asks p
+    → IsRead p.ask → OrderlyIn now.debuggee → BoundsIn now → OwesNothing now.debuggee.program
+    → Agrees f now.debuggee.program now.numbers terms
+    → AnswerLeads now f (remembered asks (number_of p.ask)) (answer_to now terms file p)
+answer_so now terms file p asks f first read orderly bounds nothing h =
+    of_waiting (λ ask a. IsRead ask → AnswerLeads now f (remembered asks (number_of ask)) a) asks now terms file p first
+    (λ refusal _. refusal_leads now terms f _ refusal None h)
+    (λ r first taken meets read. subst (λ (x : Option Asked). AnswerLeads now f x (success_of (given_of now) terms file r.command))
+    (sym (remembers asks r.seq r first))
+    (commands_lead now terms file r.command f
+    (record { taken = taken; meets = meets; orderly = orderly; bounds = bounds; bytes = read.1.1; owes = nothing }) h)) read
+
+-- ---- events
+
+abbrev pub Kept : Session → Type 0
+Kept s = Both Knows knows s
+
+abbrev Stays : Session → Session → Type 0
+Stays s t = Kept s → Faithful s → Faithful t
+
+turns_so : (file : Option (List ℕ)) → ByTurn file Stays
+turns_so file = record {
+  stays = λ s k h. h;
+  answers = λ l p rest s nothing k h.
       let t = on_with (Some l) (p ∷ rest) s in
-      answering_faithful l p rest s (answer_to t.now l.terms file p) (answer_owes t.now l.terms file p nothing)
-      (λ few. answer_so t.now l.terms file p.ask p.fate s.life.heard (known s.life)
+      answering_faithful l p rest s (answer_to t.now l.terms file p) (answer_is_mild t.now l.terms file p nothing).0
+      (λ few. answer_so t.now l.terms file p s.life.heard (known s.life)
       (All-head (WaitsFirst s.life.heard) p rest k.0.asks.waits) k.1.asks.0 k.1.program k.1.bounds nothing (h.agrees few))
-      h.was
-
-  answers_so : (l : Link) (file : Option (List ℕ)) (s : Session) → Kept (on (Some l) s) → OwesNothing s.now.debuggee.program
-      → Faithful (on (Some l) s) → Faithful (performed histories (answers_next (histories.see (on (Some l) s)) l file).acts (on (Some l) s))
-  answers_so l file s k nothing h =
-      if_keeps (λ (o : Outcome). Faithful (performed histories o.acts (on (Some l) s))) (ltb FULL (length (on (Some l) s).waiting)) _ _
-      (λ _. h) (λ _. turn_so l file s.now.arrivals.pending s k nothing h)
-
-  owed_so : (owed : Option Tick) (l : Link) (file : Option (List ℕ)) (p : Program) (s : Session) → p.owed ≡ owed
-      → s.now.debuggee.program ≡ Some p → Kept (on (Some l) s) → Faithful (on (Some l) s)
-      → Faithful (performed histories (turn_by owed (histories.see (on (Some l) s)) l p file).acts (on (Some l) s))
-  owed_so None l file p s e is k h = answers_so l file s k (subst OwesNothing (sym is) e) h
-  owed_so (Some tick) l file p s e is k h =
+      h.was;
+  tells = λ l p tick s is e k h.
+      let now = (on (Some l) s).now in
       let owes : OwesRunning p = subst OwesOf is h.was.owes in
-      quiet_faithful (telling (on (Some l) s).now p tick) (Some l) s (telling_owes (on (Some l) s).now p tick)
-      (λ few. telling_so (known s.life) (owes (λ none. never tick (sym none ∙ e)))
+      quiet_faithful (telling now p tick) (Some l) s (telling_owes now p tick)
+      (λ few. telling_leads l.terms s.now.numbers (known s.life) now p tick refl (owes (λ none. never tick (sym none ∙ e)))
       (subst (λ (x : Option Program). Agrees (known s.life) x s.now.numbers l.terms) is (h.agrees few)))
-      h.was where
-        telling_so : (f : Facts) → Rattle.debuggee.specs.Programs.is_running p.run ≡ true → Agrees f (Some p) s.now.numbers l.terms
-            → Leads l.terms s.now.numbers f s.now.debuggee.program (telling (on (Some l) s).now p tick)
-        telling_so f runs a = telling_leads l.terms s.now.numbers f (on (Some l) s).now p tick refl runs a
+      h.was;
+}
 
-  program_so : (program : Option Program) (l : Link) (file : Option (List ℕ)) (s : Session) → s.now.debuggee.program ≡ program
-      → Kept (on (Some l) s) → Faithful (on (Some l) s)
-      → Faithful (performed histories (turn_of program (histories.see (on (Some l) s)) l file).acts (on (Some l) s))
-  program_so None l file s is k h = answers_so l file s k (subst OwesNothing (sym is) tt) h
-  program_so (Some p) l file s is k h = owed_so p.owed l file p s refl is k h
+-- the program is marked
+hold_agrees : (l : Option Link) (s : Session) → Faithful (on l s)
+    → AgreesOn l s.now.limits.last_seq (on_program (marked mark.Hold) s.now.debuggee.program) s.now.numbers (known s.life)
+hold_agrees None s h = tt
+hold_agrees (Some l) s h = λ few. marked_agrees mark.Hold (known s.life) s.now.debuggee.program s.now.numbers l.terms (h.agrees few)
 
-  -- a piece comes
-  accepts_so : (l : Link) (piece : List ℕ) (s : Session) → Kept (on (Some l) s) → Faithful (on (Some l) s)
-      → Faithful (accepting l piece (on (Some l) s))
-  accepts_so l piece s k h =
+events_so : ByEvent (λ e. Stays)
+events_so = record {
+  stays = λ e s k h. h;
+  opens = λ s k h. record {
+    was = record { before = All-push Held s.before s.life h.was.before h.was.present; present = tt; owes = h.was.owes };
+    agrees = λ _. nothing_agrees false s.now.debuggee.program s.now.numbers first_terms refl;
+  };
+  accepts = λ l piece s k h.
       let asks = asks_of (read_on s.now piece).bodies in
       record {
         was = record {
@@ -115,122 +184,59 @@ module _ (lead : CommandsLead) (owe : CommandsOwe) where
         agrees =
             λ few. subst (λ (f : Facts). Agrees f s.now.debuggee.program s.now.numbers l.terms)
             (sym (known_same s.life.heard asks nothing_known s.life.said k.0.present)) (h.agrees few);
-      }
-
-  piece_so : (l : Link) (piece : List ℕ) (s : Session) → Kept (on (Some l) s) → Faithful (on (Some l) s)
-      → Faithful (performed histories (outcome_at (histories.see (on (Some l) s)) (Some l) (Recv piece)).acts (on (Some l) s))
-  piece_so l piece s k h =
-      if_keeps (λ (o : Outcome). Faithful (performed histories o.acts (on (Some l) s))) l.is_closing _ _ (λ _. h)
-      (λ _. if_keeps (λ (o : Outcome). Faithful (performed histories o.acts (on (Some l) s))) (ltb MOST_PIECE (length piece)) _ _ (λ _. h)
-      (λ _. if_keeps (λ (o : Outcome). Faithful (performed histories o.acts (on (Some l) s)))
-      (leb MOST_PENDING (length s.now.arrivals.pending)) _ _ (λ _. h)
-      (λ _. if_keeps Faithful l.is_closing _ _ (λ _. h) (λ _. accepts_so l piece s k h))))
-
-  -- the program is marked
-  hold_agrees : (l : Option Link) (s : Session) → Faithful (on l s)
-      → AgreesOn l s.now.limits.last_seq (on_program (marked mark.Hold) s.now.debuggee.program) s.now.numbers (known s.life)
-  hold_agrees None s h = tt
-  hold_agrees (Some l) s h = λ few. marked_agrees mark.Hold (known s.life) s.now.debuggee.program s.now.numbers l.terms (h.agrees few)
-
-  hold_so : (l : Option Link) (s : Session) → Faithful (on l s) → Faithful (performed histories (holding (on l s).now) (on l s))
-  hold_so l s h = record {
-    was =
-        record {
-          before = h.was.before;
-          present = h.was.present;
-          owes = owes_after (marked mark.Hold)
-              (marked_owes mark.Hold) s.now.debuggee.program h.was.owes;
-        };
-    agrees = hold_agrees l s h;
-  }
-
-  drop_so : (l : Link) (s : Session) → Faithful (on (Some l) s)
-      → Faithful (performed histories (leaving (on (Some l) s).now) (on (Some l) s))
-  drop_so l s h = record {
-    was =
-        record {
-          before = h.was.before;
-          present = h.was.present;
-          owes = owes_after left
-              (λ p _. left_owes p) s.now.debuggee.program h.was.owes;
-        };
+      };
+  turns = turns_so;
+  holds = λ s k h. record {
+    was = assumption (owes_after (marked mark.Hold) (marked_owes mark.Hold) s.now.debuggee.program h.was.owes);
+    agrees = hold_agrees s.now.link s h;
+  };
+  takes = λ n s k h. assumption;
+  drops = λ s k h. record {
+    was = assumption (owes_after left (λ p _. nothing_owed (left p) refl) s.now.debuggee.program h.was.owes);
     agrees = tt;
-  }
+  };
+}
 
-  outcome_so : (l : Option Link) (e : Event) (s : Session) → Kept (on l s) → Faithful (on l s)
-      → Faithful (performed histories (outcome_at (histories.see (on l s)) l e).acts (on l s))
-  outcome_so None Connect s k h =
-      if_keeps (λ (o : Outcome). Faithful (performed histories o.acts (on None s))) (eqb s.now.connections LAST_CONNECTION) _ _ (λ _. h)
-      (λ _. record {
-        was = record { before = All-push Held s.before s.life h.was.before h.was.present; present = tt; owes = h.was.owes };
-        agrees = λ _. nothing_agrees s.now.debuggee.program s.now.numbers first_terms refl;
-      })
-  outcome_so None (Recv piece) s k h = h
-  outcome_so None (Turn file) s k h = h
-  outcome_so None (Slice n) s k h = h
-  outcome_so None Hold s k h = hold_so None s h
-  outcome_so None (Sent n) s k h = h
-  outcome_so None DropConnection s k h = h
-  outcome_so (Some l) Connect s k h = h
-  outcome_so (Some l) (Recv piece) s k h = piece_so l piece s k h
-  outcome_so (Some l) (Turn file) s k h = program_so s.now.debuggee.program l file s refl k h
-  outcome_so (Some l) (Slice n) s k h = h
-  outcome_so (Some l) Hold s k h = hold_so (Some l) s h
-  outcome_so (Some l) (Sent n) s k h =
-      if_keeps (λ (o : Outcome). Faithful (performed histories o.acts (on (Some l) s))) (ltb (length (on (Some l) s).waiting) n) _ _
-      (λ _. h)
-      (λ _. record { was = record { before = h.was.before; present = h.was.present; owes = h.was.owes }; agrees = h.agrees })
-  outcome_so (Some l) DropConnection s k h = drop_so l s h
+-- ---- slices
 
-  -- ---- slices
+beat_leads : (l : Option Link) (s : Session) (more : Bool) → Faithful (on l s) → LeadsIf l s (beat (histories.see (on l s)) more).acts
+beat_leads None s more h = tt
+beat_leads (Some l) s more h =
+    λ few. program_leads l.terms s.now.numbers (known s.life) s.now.debuggee.program (histories.see (on (Some l) s)) more refl h.was.owes
+    (h.agrees few)
 
-  beat_leads : (l : Option Link) (s : Session) (more : Bool) → Faithful (on l s) → LeadsIf l s (beat (histories.see (on l s)) more).acts
-  beat_leads None s more h = tt
-  beat_leads (Some l) s more h =
-      λ few. program_leads l.terms s.now.numbers (known s.life) s.now.debuggee.program (histories.see (on (Some l) s)) more refl h.was.owes
-      (h.agrees few)
+beat_so : (s : Session) (more : Bool) → Faithful s → Faithful (performed histories (beat (histories.see s) more).acts s)
+beat_so s more h =
+    quiet_faithful (beat (histories.see s) more).acts s.now.link s (beat_owes s.now.debuggee.program (histories.see s) more)
+    (beat_leads s.now.link s more h) h.was
 
-  beat_so : (l : Option Link) (s : Session) (more : Bool) → Faithful (on l s)
-      → Faithful (performed histories (beat (histories.see (on l s)) more).acts (on l s))
-  beat_so l s more h =
-      quiet_faithful (beat (histories.see (on l s)) more).acts l s (beat_owes s.now.debuggee.program (histories.see (on l s)) more)
-      (beat_leads l s more h) h.was
+abbrev pub Told : Session → Type 0
+Told s = Kept s × Faithful s
 
-  abbrev pub Told : Session → Type 0
-  Told s = Kept s × Faithful s
+pub beats_so : (n i : ℕ) (s : Session) → Told s → Told (beats histories n i s).state
+beats_so n i s h = by_beats Told (λ t more x. (beat_keeps Knows knows t more x.0, beat_so t more x.1)) n i s h
 
-  pub beats_so : (n i : ℕ) (s : Session) → Told s → Told (beats histories n i s).state
-  beats_so n zero s h = h
-  beats_so n (suc i) s h = by (beats histories n i s).ending (beats_so n i s h) where
-    by : (e : Option SliceEnd) → Told (beats histories n i s).state → Told (next_by histories n e (beats histories n i s)).state
-    by (Some e) x = x
-    by None x =
-        let t = (beats histories n i s).state in
-        let more = ltb (beats histories n i s).moved n in
-        (beat_keeps Knows knows t more x.0, beat_so t.now.link t more x.1)
+event_so : (e : Event) (s : Session) → Told s → Told (Effect s e)
+event_so (Slice n) s h = beats_so n (enough n) s h
+event_so e s h = (outcome_keeps Knows knows s.now.link e s h.0, by_event (λ e. Stays) events_so e s.now.link s h.0 h.1)
 
-  pub event_so : (e : Event) (s : Session) → Told s → Told (Effect s e)
-  event_so Connect s h = (outcome_keeps Knows knows s.now.link Connect s h.0, outcome_so s.now.link Connect s h.0 h.1)
-  event_so (Recv piece) s h = (outcome_keeps Knows knows s.now.link (Recv piece) s h.0, outcome_so s.now.link (Recv piece) s h.0 h.1)
-  event_so (Turn file) s h = (outcome_keeps Knows knows s.now.link (Turn file) s h.0, outcome_so s.now.link (Turn file) s h.0 h.1)
-  event_so (Slice n) s h = beats_so n (enough n) s h
-  event_so Hold s h = (outcome_keeps Knows knows s.now.link Hold s h.0, outcome_so s.now.link Hold s h.0 h.1)
-  event_so (Sent n) s h = (outcome_keeps Knows knows s.now.link (Sent n) s h.0, outcome_so s.now.link (Sent n) s h.0 h.1)
-  event_so DropConnection s h = (outcome_keeps Knows knows s.now.link DropConnection s h.0, outcome_so s.now.link DropConnection s h.0 h.1)
+owes_first : (given : Option (List ℕ × List ℕ)) (size : ℕ) → OwesOf (first_program given size)
+owes_first None size = tt
+owes_first (Some g) size = λ some. absurd (some refl)
 
-  owes_first : (given : Option (List ℕ × List ℕ)) (size : ℕ) → OwesOf (first_program given size)
-  owes_first None size = tt
-  owes_first (Some g) size = λ some. absurd (some refl)
+pub told_at : (from : Beginning) (events : List Happened) → Told (Reached from events)
+told_at from events =
+    reached Told event_so beats_so from (
+      (knows_at_first from, begins_so from),
+      record { was = record { before = All-nil Held; present = tt; owes = owes_first from.program from.size }; agrees = tt },
+    ) events
 
-  pub told_at_first : (from : Beginning) → Told (start from)
-  told_at_first from = (
-    (record { before = All-nil AllKnown; present = none_said; asks = tt }, begins_so from),
-    record { was = record { before = All-nil Held; present = tt; owes = owes_first from.program from.size }; agrees = tt },
-  )
+-- what was told on each connection was so
+pub held_on : (from : Beginning) (events : List Happened) (c : ℕ) → Held (life_of c (Reached from events))
+held_on from events c =
+    let was = (told_at from events).1.was in each_life Held (Reached from events) tt was.before was.present c
 
-  pub headline : (from : Beginning) (events : List Happened) (c count : ℕ) → WhatIsKnownWasSo (Reached from events) c count
-  headline from events c count =
-      let s = Reached from events in
-      let h : Told s = reached Told event_so beats_so from (told_at_first from) events in
-      let life = life_of c s in
-      within_was_so (remembered life.heard) nothing_known life.said count None tt (each_life Held s tt h.1.was.before h.1.was.present c)
+pub headline : (from : Beginning) (events : List Happened) (c count : ℕ) → WhatIsKnownWasSo (Reached from events) c count
+headline from events c count =
+    let life = life_of c (Reached from events) in
+    within_was_so (remembered life.heard) nothing_known life.said count None tt (held_on from events c)

@@ -1,20 +1,15 @@
 pub mod Common
-pub mod Ascii
-pub mod Plain
+-- plain texts
+pub mod Words
+pub mod Names
 pub mod Instructions
 pub mod FileNames
-pub mod Problems
-pub mod BodyTexts
-pub mod BodyLengths
-pub mod Frames
-pub mod Named
-pub mod Breaks
+-- what comes and what is debugged
 pub mod Programs
-pub mod Claims
-pub mod Names
 pub mod Requests
-pub mod Listed
-pub mod Texts
+-- what is said
+pub mod Bodies
+pub mod Events
+pub mod Sessions
 pub mod Numbered
-pub mod Lengths
 pub mod Readable

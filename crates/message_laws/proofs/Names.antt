@@ -1,12 +1,12 @@
--- The names of requests are ASCII, and short.
-use Rattle.message_laws.proofs.Common.{and_parts, are_ascii, arith, Command, leb, length, name_of, nat_tests, refl, true, ◌&&◌, ◌≡◌, ◌≤◌}
+-- The names of requests are plain, and short.
+use Rattle.message_laws.proofs.Common.{Command, leb, length, name_of, refl, true, ◌&&◌, ◌≡◌}
 use Rattle.protocol.specs.declared.command.Command.TheVariants as command
+use Rattle.text_laws.proofs.Plain.{are_plain}
+use Rattle.message_laws.proofs.Words.{IsPlainWithin, spelled}
 
-fits : (c : Command) → (are_ascii (name_of c) && leb (length (name_of c)) 100) ≡ true
+fits : (c : Command) → (are_plain (name_of c) && leb (length (name_of c)) 100) ≡ true
 fits (command.Initialize arguments) = refl
 fits _ = refl
 
-pub names_are_short : (c : Command) → (are_ascii (name_of c) ≡ true) × (length (name_of c) ≤ 100)
-names_are_short c =
-    let both = and_parts (are_ascii (name_of c)) (leb (length (name_of c)) 100) (fits c) in
-    let few = both.1 in (both.0, grind (arith, nat_tests, few))
+pub names_are_short : (c : Command) → IsPlainWithin 100 (name_of c)
+names_are_short c = spelled 100 (name_of c) (fits c)

@@ -1,5 +1,5 @@
 -- Each message has a number that the protocol can have.
-use Rattle.message_laws.proofs.Common.{All, All-nil, All-push, and_parts, arith, Beginning, each_life, Happened, Life, life_of, List, nat_le, nat_tests, Reached, reached_by_acts, refl, Said, said_next, Session, true, ℕ, ◌≡◌, ◌≤◌}
+use Rattle.message_laws.proofs.Common.{All, All-nil, All-push, and_parts, arith, Beginning, each_life, Happened, leb-true, Life, life_of, List, nat_le, Reached, reached_by_acts, refl, Said, said_next, Session, true, ℕ, ◌≡◌, ◌≤◌}
 use Rattle.session_laws.proofs.ByForms.{KeptByAnswers, KeptByOthers, by_forms}
 use Rattle.session.specs.Limits.{are_limits}
 use Rattle.session.specs.declared.limits.Limits.{Limits}
@@ -44,10 +44,8 @@ module _ (last : ℕ) where
 
 few_messages : (l : Limits) → are_limits l ≡ true → l.last_seq ≤ 2147483647
 few_messages l e =
-    let a = and_parts _ _ e in
-    let b = and_parts _ _ a.0 in
-    let c = and_parts (nat_le 1 l.last_seq) (nat_le l.last_seq 2147483647) b.0 in
-    grind (arith, nat_tests, c)
+    let seq = (and_parts _ _ (and_parts _ _ e).0).0 in
+    leb-true l.last_seq 2147483647 (and_parts (nat_le 1 l.last_seq) (nat_le l.last_seq 2147483647) seq).1
 
 pub record InRange (last : ℕ) (life : Life) : Type 0 where
   pub few : last ≤ 2147483647

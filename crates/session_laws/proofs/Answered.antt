@@ -1,6 +1,5 @@
 -- What a turn does, in four: it is refused, it tells what is owed, it has nothing to answer, or it answers the first request that waits.
-use Rattle.session_laws.proofs.Common.{[], answer_to, Answered, answered_by, answered_on, answered_with, answering, answers_next, Bool, cond, done, false, first_answered, FULL, Link, List, ltb, next_answered, next_turn, None, NotConnected, Option, Outcome, outcome_at, Pending, Program, refl, refused, Seen, Some, telling, Tick, true, Turn, turn_by, turn_of, ℕ, ◌∷◌, ◌≡◌}
-use Rattle.session.specs.declared.event.Applied.TheVariants.{Turn as DidTurn}
+use Rattle.session_laws.proofs.Common.{[], answer_to, Answered, answered_by, answered_on, answered_with, answering, answers_next, Bool, cond, DidTurn, done, false, first_answered, FULL, Link, List, ltb, next_answered, next_turn, None, NotConnected, Option, Outcome, outcome_at, Pending, Program, refl, refused, Seen, Some, telling, Tick, true, Turn, turn_by, turn_of, ℕ, ◌∷◌, ◌≡◌}
 use Rattle.session.specs.declared.event.Turned.{Turned}
 use Rattle.session.specs.declared.event.Turned.TheVariants as turned
 

@@ -1,15 +1,8 @@
 -- Requests as they come: with numbers and bytes that a request may have, and no refusal that has a text of its own.
-use Rattle.session_laws.proofs.Common.{[], all_joined, ap, Arrivals, Ask, asks_in, asks_of, Err, false, inl, inr, IsRefusalOf, List, map, map-id, None, number_of, Ok, Pending, Refusal, Result, Some, subst, sym, ℕ, ◌++◌, ◌∙◌, ◌∷◌, ◌≡◌, ◌≤◌}
+use Rattle.session_laws.proofs.Common.{[], all_joined, ap, arith, Arrivals, Ask, asks_in, asks_of, AsksLinesWithin, Bad, Err, false, GivesBytes, Ignored, Incoming, incoming_of, inl, inr, IsBad, IsRefusalOf, IsRequest, List, map, map-id, MessageError, None, number_of, Ok, Pending, Refusal, Request, Result, Some, subst, sym, ℕ, ◌++◌, ◌∙◌, ◌∷◌, ◌≡◌, ◌≤◌}
 use Rattle.protocol.proofs.Meanings.{IsSound, IsOfNameOrArguments, incoming_of-sound}
-use Rattle.protocol.specs.Laws.{AsksLinesWithin}
-use Rattle.protocol.specs.Reading.{incoming_of}
 use Rattle.protocol.specs.Refusals.{has_text}
-use Rattle.protocol.specs.declared.request.Incoming.{Incoming}
-use Rattle.protocol.specs.declared.request.Incoming.TheVariants.{Request as IsRequest, Bad as IsBad, Ignored}
-use Rattle.protocol.specs.declared.request.MessageError.{MessageError}
-use Rattle.range_laws.specs.Requests.{GivesBytes}
 use Rattle.range_laws.proofs.Requests.{BodyGives, body_gives}
-use Rattle.queues.specs.declared.pending.Ask.TheVariants.{Request, Bad}
 use Rattle.session_laws.proofs.Joining.{seen_as, all_joined_as}
 
 abbrev pub IsRead : Ask → Type 0
@@ -21,9 +14,7 @@ number_is (Request r) h = h.0
 number_is (Bad seq command refusal) h = h.0
 
 pub has_no_text : (ask : Ask) (refusal : Refusal) → IsRead ask → IsRefusalOf ask refusal → has_text refusal ≡ false
-has_no_text ask refusal h (inr e) = e
-has_no_text (Request r) refusal h (inl e) = absurd (let none : None ≡ Some refusal = e in cc)
-has_no_text (Bad seq command why) refusal h (inl e) = ap has_text (let same : refusal ≡ why = cc in same) ∙ h.1
+has_no_text ask refusal h is = grind arith
 
 abbrev pub AreRead : List Ask → Type 0
 AreRead [] = Unit {0}
@@ -34,8 +25,7 @@ AreRead-append [] ys a b = b
 AreRead-append (x ∷ xs) ys a b = (a.0, AreRead-append xs ys a.1 b)
 
 no_text : (refusal : Refusal) → IsOfNameOrArguments refusal → has_text refusal ≡ false
-no_text refusal (inl e) = ap has_text e
-no_text refusal (inr e) = ap has_text e
+no_text refusal is = grind arith
 
 message_is_read : (i : Result Incoming MessageError) → IsSound i → BodyGives i → (rest : List (Result Incoming MessageError))
     → AreRead (asks_in rest) → AreRead (asks_in (i ∷ rest))

@@ -1,9 +1,6 @@
 -- What a call leads to.
-use Rattle.session_laws.proofs.Common.{[], AlreadyConnected, Busy, Closing, Cut, Ends, EndsWell, Err, Happened, histories, led_append, led_to, List, moves_asked, NoMemory, None, NotConnected, Ok, Option, PieceTooLong, ran_out, refl, Result, SentTooMuch, Session, Some, Spent, start, sym, Whole, ℕ, ◌∷◌}
+use Rattle.session_laws.proofs.Common.{[], AnEvent as Event, Applied, Cut, Ends, EndsWell, Err, EventError, Happened, histories, led_append, led_to, List, moves_asked, NoMemory, None, Ok, Option, ran_out, refl, Result, Session, Some, start, sym, Whole, ℕ, ◌∷◌}
 use Rattle.session.specs.Kept.{Kept, Stands}
-use Rattle.session.specs.declared.event.Applied.{Applied}
-use Rattle.session.specs.declared.event.Event.{Event}
-use Rattle.session.specs.declared.event.EventError.{EventError}
 use Rattle.session_laws.specs.Calls.{AddsDone, CallsLead, Leads, LeadsOn}
 
 module _ (s : Session) (e : Event) (new : Kept) where
@@ -18,13 +15,7 @@ module _ (s : Session) (e : Event) (new : Kept) where
   leads : (result : Result Applied EventError) → Ends histories s e result (λ t. Stands new t) → Leads s e result new
   leads (Ok x) h = let d = done x (ran_out x) h in record { more = d.0; adds = d.1.0; stands = d.1.1 }
   leads (Err NoMemory) h = record { more = []; adds = refl; stands = h.1 }
-  leads (Err NotConnected) h = record { more = Whole e ∷ []; adds = refl; stands = h.1 }
-  leads (Err AlreadyConnected) h = record { more = Whole e ∷ []; adds = refl; stands = h.1 }
-  leads (Err Busy) h = record { more = Whole e ∷ []; adds = refl; stands = h.1 }
-  leads (Err SentTooMuch) h = record { more = Whole e ∷ []; adds = refl; stands = h.1 }
-  leads (Err PieceTooLong) h = record { more = Whole e ∷ []; adds = refl; stands = h.1 }
-  leads (Err Closing) h = record { more = Whole e ∷ []; adds = refl; stands = h.1 }
-  leads (Err Spent) h = record { more = Whole e ∷ []; adds = refl; stands = h.1 }
+  leads (Err error) h = record { more = Whole e ∷ []; adds = refl; stands = h.1 }
 
 pub calls_lead : CallsLead
 calls_lead s old new e result stands h = leads s e new result (h.to_each s stands)

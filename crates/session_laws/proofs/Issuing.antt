@@ -1,7 +1,5 @@
 -- What is kept of references represents all that were ever issued, each on its connection.
-use Rattle.session_laws.proofs.Common.{[], All, All-cons, All-nil, All-weaker, ap, arith, Beginning, Call, down_from, Happened, issued_all, issued_one, length-map, Link, List, map, None, Numbers, Option, past_of, past_referred, Reached, reached_by_acts, Reference, References, referred, refl, Session, Some, StandsFor, subst, sym, Target, unless_issued, without_connection, ℕ, ⊤, ◌+◌, ◌∙◌, ◌∷◌, ◌≡◌, ◌≤◌}
-use Rattle.session_laws.specs.Lifetimes.{ReferencesRise, ReferencesStand}
-use Rattle.session.specs.References.{ended}
+use Rattle.session_laws.proofs.Common.{[], All, All-cons, All-nil, All-weaker, ap, arith, Beginning, Call, down_from, Happened, issued_all, issued_one, length-map, Link, List, map, None, Numbers, Option, past_of, past_referred, Reached, reached_by_acts, Reference, References, references_ended as ended, ReferencesRise, ReferencesStand, referred, refl, Session, Some, StandsFor, subst, sym, Target, unless_issued, without_connection, ℕ, ⊤, ◌+◌, ◌∙◌, ◌∷◌, ◌≡◌, ◌≤◌}
 use Rattle.session_laws.proofs.ByForms.{KeptByAnswers, KeptByOthers, by_forms}
 use Rattle.variables.specs.Laws.Call.{EndStop, Issue}
 use Rattle.variables.specs.References as variables
@@ -9,66 +7,54 @@ use Rattle.variables.specs.References.{Issued, Past, next_number, number_of}
 use Rattle.variables.proofs.Calls.{Falls, falls}
 use Rattle.variables.proofs.Standing.{all_stand, ended_stands, nothing_stands}
 
--- ---- without the connections, it is the same
-
-one_as : (number : Option ℕ) (connection : ℕ) (all : References) (target : Target)
-    → past_of (unless_issued number connection all target) ≡ variables.unless_issued number (past_of all) target
-one_as None connection all target = refl
-one_as (Some number) connection all target = refl
-
-all_as : (connection : ℕ) (all : References) (targets : List Target)
-    → past_of (issued_all connection all targets) ≡ variables.issued_all (past_of all) targets
-all_as connection all [] = refl
-all_as connection all (target ∷ others) =
-    all_as connection (issued_one connection all target) others
-    ∙ ap (λ (past : Past). variables.issued_all past others) (one_as (number_of (past_of all) target) connection all target)
-
-stands_after : (call : Option Call) (connection : ℕ) (numbers : Numbers) (all : References) → StandsFor numbers (past_of all)
-    → StandsFor (referred call numbers) (past_of (past_referred connection call all))
-stands_after None connection numbers all h = h
-stands_after (Some (Issue targets)) connection numbers all h =
-    subst (StandsFor _) (sym (all_as connection all targets)) (all_stand numbers (past_of all) targets h)
-stands_after (Some EndStop) connection numbers all h = ended_stands numbers (past_of all) h
-
--- ---- what is issued in a stop is issued on its connection
-
+-- none is of a later stop, and what is of this one came on this connection
 abbrev pub Here : Option Link → Type 0
 Here None = ⊥
 Here (Some link) = ⊤
 
--- none is of a later stop, and what is of this one came on this connection
 abbrev pub IsMade : Option Link → ℕ → ℕ → Reference → Type 0
 IsMade link connection stop r = (r.stop ≤ stop) × (r.stop ≡ stop → Here link × (r.connection ≡ connection))
 
 abbrev pub AreMade : Option Link → ℕ → References → Type 0
 AreMade link connection all = All (IsMade link connection all.stop) all.issued
 
-made_one : (number : Option ℕ) (link : Link) (connection : ℕ) (all : References) (target : Target) → AreMade (Some link) connection all
-    → AreMade (Some link) connection (unless_issued number connection all target)
-made_one None link connection all target h =
-    let made : Reference → Type 0 = IsMade (Some link) connection all.stop in
-    All-cons made (record { number = next_number (past_of all); target = target; stop = all.stop; connection = connection }) all.issued
-    (let same : all.stop ≤ all.stop = omega arith in same, λ same. (tt, refl)) h
-made_one (Some number) link connection all target h = h
+-- ---- what is issued: without the connections it is the same, and it is issued on its connection
 
-made_all : (link : Link) (connection : ℕ) (all : References) (targets : List Target) → AreMade (Some link) connection all
-    → AreMade (Some link) connection (issued_all connection all targets)
-made_all link connection all [] h = h
-made_all link connection all (target ∷ others) h =
-    made_all link connection (issued_one connection all target) others
-    (made_one (number_of (past_of all) target) link connection all target h)
+issued_one_so : (number : Option ℕ) (link : Link) (connection : ℕ) (all : References) (target : Target) → AreMade (Some link) connection all
+    → let after = unless_issued number connection all target in
+    (past_of after ≡ variables.unless_issued number (past_of all) target) × AreMade (Some link) connection after
+issued_one_so None link connection all target h =
+    let made : Reference → Type 0 = IsMade (Some link) connection all.stop in (
+      refl,
+      All-cons made (record { number = next_number (past_of all); target = target; stop = all.stop; connection = connection }) all.issued
+          (let same : all.stop ≤ all.stop = omega arith in same, λ same. (tt, refl)) h,
+    )
+issued_one_so (Some number) link connection all target h = (refl, h)
+
+issued_so : (link : Link) (connection : ℕ) (all : References) (targets : List Target) → AreMade (Some link) connection all
+    → let after = issued_all connection all targets in
+    (past_of after ≡ variables.issued_all (past_of all) targets) × AreMade (Some link) connection after
+issued_so link connection all [] h = (refl, h)
+issued_so link connection all (target ∷ others) h =
+    let one = issued_one_so (number_of (past_of all) target) link connection all target h in
+    let rest = issued_so link connection (issued_one connection all target) others one.1 in
+    (rest.0 ∙ ap (λ (past : Past). variables.issued_all past others) one.0, rest.1)
 
 made_ended : (link other : Option Link) (connection : ℕ) (all : References) → AreMade link connection all
     → AreMade other connection (ended all)
 made_ended link other connection all h =
     All-weaker (IsMade link connection all.stop) (IsMade other connection (all.stop + 1))
-    (λ r made. (let least = made.0 in omega (arith, least), λ same. absurd (let least = made.0 in omega (arith, least, same)))) all.issued h
+    (λ r made. let least = made.0 in (omega (arith, least), λ same. absurd (omega (arith, least, same)))) all.issued h
 
-made_after : (call : Option Call) (link : Link) (connection : ℕ) (all : References) → AreMade (Some link) connection all
-    → AreMade (Some link) connection (past_referred connection call all)
-made_after None link connection all h = h
-made_after (Some (Issue targets)) link connection all h = made_all link connection all targets h
-made_after (Some EndStop) link connection all h = made_ended (Some link) (Some link) connection all h
+referred_so : (call : Option Call) (link : Link) (connection : ℕ) (numbers : Numbers) (all : References) → StandsFor numbers (past_of all)
+    → AreMade (Some link) connection all → let after = past_referred connection call all in
+    StandsFor (referred call numbers) (past_of after) × AreMade (Some link) connection after
+referred_so None link connection numbers all stands made = (stands, made)
+referred_so (Some (Issue targets)) link connection numbers all stands made =
+    let so = issued_so link connection all targets made in
+    (subst (StandsFor _) (sym so.0) (all_stand numbers (past_of all) targets stands), so.1)
+referred_so (Some EndStop) link connection numbers all stands made =
+    (ended_stands numbers (past_of all) stands, made_ended (Some link) (Some link) connection all made)
 
 -- on a connection that begins, nothing was issued
 made_opened : (here : Type 0) (connection other : ℕ) (all : References) → AreMade None connection all
@@ -94,10 +80,8 @@ refers = record {
       };
   accepts = λ l piece s e h. record { stands = h.stands; made = h.made };
   agrees = λ l terms s h. record { stands = h.stands; made = h.made };
-  refers = λ l call s h. record {
-    stands = stands_after call s.now.connections s.now.numbers s.references h.stands;
-    made = made_after call l s.now.connections s.references h.made;
-  };
+  refers = λ l call s h.
+      let so = referred_so call l s.now.connections s.now.numbers s.references h.stands h.made in record { stands = so.0; made = so.1 };
   becomes = λ d s h. record { stands = h.stands; made = h.made };
   tells = λ l event s few h. record { stands = h.stands; made = h.made };
   hangs = λ l s h. record { stands = h.stands; made = h.made };

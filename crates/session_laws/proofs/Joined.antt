@@ -1,55 +1,91 @@
 -- Two slices, one after the other, leave what one of all their moves leaves.
-use Rattle.session_laws.proofs.Common.{[], Act, after_beat, ap, arith, beat, Beat, beat_by, beat_of, beats, beats_on, becomes, Bool, by_move, concluded, concludes, cond, Debuggee, ended, Ended, ending_of, ends, enough, Event as IsEvent, exit_events, exits, false, from_here, FULL, goes, goes_unless, halts, histories, if_keeps, inl, inr, is_active, is_at_limit, is_configuring, is_runnable_by, is_running, length, List, logged, ltb, makes_move, map, Mark, moved, moves_by, nat_tests, next_beat, next_by, next_tick, None, not, Now, Option, output_events, performed, performed_append, performed_on, Program, refl, runs, Seen, Session, sliced, SliceEnd, SlicesEnd, SlicesJoin, Slicing, Some, stop_event, stopped, Stopped, stops, subst, suc, sym, Tell, telling, tells, Tick, told, true, Went, Why, why_marked, with_beat, zero, ℕ, ℤ, ◌&&◌, ◌+◌, ◌<◌, ◌∙◌, ◌∷◌, ◌≡◌, ◌≤◌, ◌⊎◌}
+use Rattle.session_laws.proofs.Common.{[], Accept, Act, after_beat, Agree, answering, Answering, ap, append-nil, arith, beat, Beat, beat_by, beat_of, beats, beats_on, Become, becomes, Bool, CameTo as Outcome, Close, closing, concluded, concludes, cond, cond-false, cond-true, Debuggee, ended, Ended, ending_of, ends, enough, Event as IsEvent, exit_events, exits, false, from_here, FULL, goes_unless, halts, HangUp, histories, if_keeps, inl, inr, is_active, is_configuring, is_runnable_by, is_running, length, List, logged, lt-ltb, ltb, ltb-false, ltb-true, map, Mark, nat_tests, next_beat, next_by, None, not, Now, Open, Option, output_events, Pending, performed, performed_append, performed_on, Program, Refer, refl, Replied as Answered, replied_on, Reply, Response, response_to, Seen, Session, sliced, SliceEnd, SlicesEnd, SlicesJoin, Slicing, Some, stop_event, stopped, Stopped, stops, subst, suc, sym, Take, Tell, telling, tells, Tick, told, Told, true, Went, Why, with_beat, zero, ℕ, ℤ, ◌&&◌, ◌++◌, ◌+◌, ◌<◌, ◌∙◌, ◌∷◌, ◌≡◌, ◌≤◌, ◌⊎◌}
 use Rattle.debuggee.specs.declared.run.Why.TheVariants as why
-use Rattle.replies.specs.declared.event.Event.{Event as Told}
 use Rattle.session.specs.declared.event.SliceEnd.TheVariants as ending
-use Rattle.stepping.specs.declared.tick.Outcome.{Outcome}
-use Rattle.stepping.specs.declared.tick.Reason.TheVariants as met
+use Rattle.session_laws.proofs.ByForms.{accepts_by, agrees_by, hangs_by, opens_by, refers_by}
+use Rattle.session_laws.proofs.Cases.{by_beat, ends_with, EndsFor, tells_tick}
 use Rattle.session_laws.proofs.Turning.{said_debuggee}
 use Rattle.session.proofs.Enough.{is_sliced, each_ends, stays_ended, Follows}
 
--- ---- what is told changes no program
+-- ---- what changes no program
 
-pub OnlyTells : List Act → Type 0
-OnlyTells [] = Unit {0}
-OnlyTells (Tell event ∷ acts) = OnlyTells acts
-OnlyTells (act ∷ acts) = ⊥
+-- none of these acts makes another program
+unfoldable pub NoneBecome : List Act → Type 0
+NoneBecome [] = Unit {0}
+NoneBecome (Become d ∷ acts) = ⊥
+NoneBecome (act ∷ acts) = NoneBecome acts
 
-pub told_only : (events : List Told) → OnlyTells (map Tell events)
-unfolding OnlyTells
-told_only [] = tt
-told_only (e ∷ es) = told_only es
+told_only : (events : List Told) (acts : List Act) → NoneBecome acts → NoneBecome (map Tell events ++ acts)
+unfolding NoneBecome
+told_only [] acts h = h
+told_only (e ∷ es) acts h = told_only es acts h
 
-pub tells_only : (now : Now) (events : List Told) → OnlyTells (tells now events)
-unfolding OnlyTells
-tells_only now events = if_keeps OnlyTells (is_active now.link) _ [] (λ _. told_only events) (λ _. tt)
+pub tells_only : (now : Now) (events : List Told) → NoneBecome (tells now events)
+unfolding NoneBecome
+tells_only now events =
+    if_keeps NoneBecome (is_active now.link) _ []
+    (λ _. subst NoneBecome (append-nil (map Tell events)) (told_only events [] tt)) (λ _. tt)
 
-pub same_debuggee : (acts : List Act) (s : Session) → OnlyTells acts → (performed histories acts s).now.debuggee ≡ s.now.debuggee
-unfolding OnlyTells
+abbrev Same : Session → Session → Type 0
+Same s t = t.now.debuggee ≡ s.now.debuggee
+
+replied_same : (pending : List Pending) (outcome : Answered) (s : Session) → Same s (replied_on pending outcome s)
+replied_same [] outcome s = refl
+replied_same (p ∷ rest) outcome s = said_debuggee s.now.link (Response (response_to p.ask outcome)) rest s
+
+act_same : (act : Act) (s : Session) → NoneBecome (act ∷ []) → Same s (performed_on act s)
+unfolding NoneBecome
+act_same Open s h = opens_by (Same s) s.now.link s (λ e. e) refl
+act_same (Accept piece) s h = accepts_by (Same s) s.now.link piece s (λ _ _ e. e) refl
+act_same (Agree terms) s h = agrees_by (Same s) s.now.link terms s (λ _ e. e) refl
+act_same (Refer call) s h = refers_by (Same s) s.now.link call s (λ _ e. e) refl
+act_same (Become d) s h = absurd h
+act_same (Reply outcome) s h = replied_same s.now.arrivals.pending outcome s
+act_same (Tell event) s h = said_debuggee s.now.link (IsEvent event) s.now.arrivals.pending s
+act_same HangUp s h = hangs_by (Same s) s.now.link s (λ _ e. e) refl
+act_same _ s h = refl
+
+pub same_debuggee : (acts : List Act) (s : Session) → NoneBecome acts → (performed histories acts s).now.debuggee ≡ s.now.debuggee
+unfolding NoneBecome
 same_debuggee [] s h = refl
-same_debuggee (Tell e ∷ acts) s h =
-    same_debuggee acts (performed_on (Tell e) s) h ∙ said_debuggee s.now.link (IsEvent e) s.now.arrivals.pending s
-same_debuggee (act ∷ acts) s h = absurd h
+same_debuggee (Become d ∷ acts) s h = absurd h
+same_debuggee (act ∷ acts) s h = same_debuggee acts (performed_on act s) h ∙ act_same act s tt
+
+pub answering_debuggee : (a : Answering) (s : Session) → (performed histories (answering a) s).now.debuggee ≡ a.debuggee
+unfolding NoneBecome
+answering_debuggee a s =
+    same_debuggee (Refer a.references ∷ Agree a.terms ∷ Reply a.outcome ∷ (map Tell a.events ++ closing a.closes))
+    (performed_on (Become a.debuggee) s) (told_only a.events (closing a.closes) (by a.closes)) where
+      by : (closes : Bool) → NoneBecome (closing closes)
+      by true = tt
+      by false = tt
 
 abbrev pub program_of : Session → Option Program
 program_of s = s.now.debuggee.program
 
 -- a program becomes this, and then something is told
-pub becomes_program : (now : Now) (p : Program) (acts : List Act) (s : Session) → OnlyTells acts
+pub becomes_program : (now : Now) (p : Program) (acts : List Act) (s : Session) → NoneBecome acts
     → program_of (performed histories (becomes now p ∷ acts) s) ≡ Some p
 becomes_program now p acts s h = ap (λ (d : Debuggee). d.program) (same_debuggee acts (performed_on (becomes now p) s) h)
 
--- ---- what a tick that is told leaves
+-- ---- what a tick that is told leaves, a stop and an end
+
+pub halts_program : (now : Now) (p : Program) (reason : Why) (ids : List ℕ) (s : Session)
+    → program_of (performed histories (halts now p reason ids) s) ≡ Some (stopped reason p)
+halts_program now p reason ids s =
+    becomes_program now (stopped reason p) (tells now (stop_event reason ids ∷ [])) s (tells_only now (stop_event reason ids ∷ []))
+
+pub exits_program : (now : Now) (p : Program) (code : ℤ) (s : Session)
+    → program_of (performed histories (exits now p code) s) ≡ Some (ended (Some code) p)
+exits_program now p code s =
+    becomes_program now (ended (Some code) p) (tells now (exit_events code)) s (tells_only now (exit_events code))
 
 -- the program after what concludes, where it was this
 concludes_program : (now : Now) (p : Program) (outcome : Outcome) (ids : List ℕ) (s : Session) → program_of s ≡ Some p
     → program_of (performed histories (concludes now p outcome ids) s) ≡ Some (concluded outcome p)
 concludes_program now p Went ids s e = e
-concludes_program now p (Stopped reason) ids s e =
-    becomes_program now (stopped (why.Met reason) p) (tells now (stop_event (why.Met reason) ids ∷ [])) s
-    (tells_only now (stop_event (why.Met reason) ids ∷ []))
-concludes_program now p (Ended code) ids s e =
-    becomes_program now (ended (Some code) p) (tells now (exit_events code)) s (tells_only now (exit_events code))
+concludes_program now p (Stopped reason) ids s e = halts_program now p (why.Met reason) ids s
+concludes_program now p (Ended code) ids s e = exits_program now p code s
 
 pub telling_program : (now : Now) (p : Program) (tick : Tick) (s : Session)
     → program_of (performed histories (telling now p tick) s) ≡ Some (concluded tick.outcome (told p))
@@ -67,32 +103,8 @@ telling_program now p tick s =
 abbrev Alike : Beat → Beat → Type 0
 Alike more less = (less ≡ more) ⊎ (less ≡ ends ending.Spent)
 
-choose : (c : Bool) (x y u v : Beat) → Alike x u → Alike y v → Alike (cond c x y) (cond c u v)
-choose true x y u v a b = a
-choose false x y u v a b = b
-
-goes_alike : (now : Now) (p : Program) → Alike (goes now p true) (goes now p false)
-goes_alike now p = choose p.machine.check_due _ _ _ _ (inl refl) (inr refl)
-
-unless_alike : (mark : Option Mark) (now : Now) (p : Program) → Alike (goes_unless mark now p true) (goes_unless mark now p false)
-unless_alike (Some mark) now p = inl refl
-unless_alike None now p = goes_alike now p
-
-runs_alike : (seen : Seen) (p : Program) → Alike (runs seen p true) (runs seen p false)
-runs_alike seen p =
-    choose (not (is_runnable_by seen.now.link p.run)) _ _ _ _ (inl refl)
-    (choose (ltb FULL seen.waits) _ _ _ _ (inl refl) (unless_alike p.mark seen.now p))
-
-owed_alike : (owed : Option Tick) (seen : Seen) (p : Program) → Alike (beat_by owed seen p true) (beat_by owed seen p false)
-owed_alike (Some tick) seen p = inl refl
-owed_alike None seen p = runs_alike seen p
-
 program_alike : (program : Option Program) (seen : Seen) → Alike (beat_of program seen true) (beat_of program seen false)
-program_alike None seen = inl refl
-program_alike (Some p) seen = owed_alike p.owed seen p
-
-beat_alike : (seen : Seen) → Alike (beat seen true) (beat seen false)
-beat_alike seen = program_alike seen.now.debuggee.program seen
+program_alike program seen = grind arith
 
 -- How far a beat moves, and how it can end: without more moves it makes none, and says Spent only then.
 pub record Bounded (more : Bool) (b : Beat) : Type 0 where
@@ -101,57 +113,13 @@ pub record Bounded (more : Bool) (b : Beat) : Type 0 where
   pub spent : b.ending ≡ Some ending.Spent → more ≡ false
   pub still : b.ending ≡ Some ending.Spent → b.acts ≡ []
 
-rests : (more : Bool) (acts : List Act) (e : Option SliceEnd) → (e ≡ Some ending.Spent → ⊥)
-    → Bounded more (record { acts = acts; moved = 0; ending = e })
-rests more acts e never = record { few = omega arith; none = λ _. refl; spent = λ h. absurd (never h); still = λ h. absurd (never h) }
-
-spends : (more : Bool) → more ≡ false → Bounded more (ends ending.Spent)
-spends more e = record { few = omega arith; none = λ _. refl; spent = λ _. e; still = λ _. refl }
-
-pub never_spent : (outcome : Outcome) → ending_of outcome ≡ Some ending.Spent → ⊥
-never_spent Went h = cc
-never_spent (Stopped reason) h = cc
-never_spent (Ended code) h = cc
-
-no_ending : None ≡ Some ending.Spent → ⊥
-no_ending h = cc
-
-other : (e : SliceEnd) → (e ≡ ending.Spent → ⊥) → Some e ≡ Some ending.Spent → ⊥
-other e never h = never (let same : e ≡ ending.Spent = cc in same)
-
-retires_bounded : (now : Now) (p : Program) → Bounded true (makes_move now p)
-retires_bounded now p =
-    record { few = omega arith; none = λ e. absurd (cc); spent = λ h. absurd (no_ending h); still = λ h. absurd (no_ending h) }
-
-moves_bounded : (now : Now) (p : Program) (outcome : Outcome) → Bounded true (moves_by now p outcome)
-moves_bounded now p outcome =
-    by_move (λ _ b. Bounded true b) now p outcome (λ _ _. retires_bounded now p) (λ _. rests true _ (Some ending.Stopped) (λ h. cc))
-    (λ _. rests true _ (Some ending.Ended) (λ h. cc))
-
-goes_bounded : (now : Now) (p : Program) (more : Bool) → Bounded more (goes now p more)
-goes_bounded now p true =
-    if_keeps (Bounded true) p.machine.check_due _ _ (λ _. rests true _ None no_ending)
-    (λ _. if_keeps (Bounded true) (is_at_limit now p) _ _ (λ _. rests true _ (Some ending.Stopped) (λ h. cc))
-    (λ _. moves_bounded now p (next_tick p).outcome))
-goes_bounded now p false = if_keeps (Bounded false) p.machine.check_due _ _ (λ _. rests false _ None no_ending) (λ _. spends false refl)
-
-unless_bounded : (mark : Option Mark) (now : Now) (p : Program) (more : Bool) → Bounded more (goes_unless mark now p more)
-unless_bounded (Some mark) now p more = rests more _ (Some ending.Stopped) (λ h. cc)
-unless_bounded None now p more = goes_bounded now p more
-
-owed_bounded : (owed : Option Tick) (seen : Seen) (p : Program) (more : Bool) → Bounded more (beat_by owed seen p more)
-owed_bounded (Some tick) seen p more = rests more _ (ending_of tick.outcome) (never_spent tick.outcome)
-owed_bounded None seen p more =
-    if_keeps (Bounded more) (not (is_runnable_by seen.now.link p.run)) _ _ (λ _. rests more [] (Some ending.Idle) (λ h. cc))
-    (λ _. if_keeps (Bounded more) (ltb FULL seen.waits) _ _ (λ _. rests more [] (Some ending.Full) (λ h. cc))
-    (λ _. unless_bounded p.mark seen.now p more))
-
-program_bounded : (program : Option Program) (seen : Seen) (more : Bool) → Bounded more (beat_of program seen more)
-program_bounded None seen more = rests more [] (Some ending.Idle) (λ h. cc)
-program_bounded (Some p) seen more = owed_bounded p.owed seen p more
-
 pub bounded : (seen : Seen) (more : Bool) → Bounded more (beat seen more)
-bounded seen more = program_bounded seen.now.debuggee.program seen more
+bounded seen more = record {
+  few = grind arith;
+  none = λ e. grind arith;
+  spent = λ e. grind arith;
+  still = λ e. grind arith;
+}
 
 -- ---- after an end each beat ends at once
 
@@ -162,116 +130,65 @@ still_as : (s : Session) (program : Option Program) → program_of s ≡ program
     → ((more : Bool) → (e : SliceEnd) × (beat_of program (histories.see s) more ≡ ends e)) → Still s
 still_as s program is h more = let x = h more in (x.0, ap (λ (p : Option Program). beat_of p (histories.see s) more) is ∙ x.1)
 
--- a program that owes nothing and stands still
-idles : (seen : Seen) (q : Program) (more : Bool) → q.owed ≡ None → is_running q.run ≡ false → beat_of (Some q) seen more ≡ ends ending.Idle
-idles seen q more owes rests =
-    ap (λ (o : Option Tick). beat_by o seen q more) owes
-    ∙ ap (λ (r : Bool). cond (not (r && not (is_configuring seen.now.link))) (ends ending.Idle)
-    (cond (ltb FULL seen.waits) (ends ending.Full) (goes_unless q.mark seen.now q more))) rests
-
 stands : (s : Session) (q : Program) → program_of s ≡ Some q → q.owed ≡ None → is_running q.run ≡ false → Still s
-stands s q is owes rests = still_as s (Some q) is (λ more. (ending.Idle, idles (histories.see s) q more owes rests))
+stands s q is owes rests = still_as s (Some q) is (λ more. (ending.Idle, grind arith))
 
 -- what a beat leaves that ends otherwise than for want of moves
 EndsStill : Session → Beat → Type 0
 EndsStill s b = (e : SliceEnd) → b.ending ≡ Some e → (e ≡ ending.Spent → ⊥) → Still (after_beat histories b s)
 
-halts_still : (s : Session) (p : Program) (reason : Why) → p.owed ≡ None → EndsStill s (stops s.now p reason)
+-- a beat that leaves this
+leaves_still : (s : Session) (b : Beat) (q : Program) → program_of (performed histories b.acts s) ≡ Some q → q.owed ≡ None
+    → is_running q.run ≡ false → EndsStill s b
 unfolding EndsStill
-halts_still s p reason owes e is never =
-    stands (performed histories (halts s.now p reason []) s) (stopped reason p)
-    (becomes_program s.now (stopped reason p) (tells s.now (stop_event reason [] ∷ [])) s
-    (tells_only s.now (stop_event reason [] ∷ []))) owes refl
+leaves_still s b q is owes rests e ends never = stands (performed histories b.acts s) q is owes rests
 
-exits_still : (s : Session) (p : Program) (code : ℤ) → p.owed ≡ None
-    → EndsStill s (record { acts = exits s.now p code; moved = 0; ending = Some ending.Ended })
-unfolding EndsStill
-exits_still s p code owes e is never =
-    stands (performed histories (exits s.now p code) s) (ended (Some code) p)
-    (becomes_program s.now (ended (Some code) p) (tells s.now (exit_events code)) s (tells_only s.now (exit_events code))) owes refl
+-- what a tick comes to is never that a slice is spent
+pub never_spent : (outcome : Outcome) → ending_of outcome ≡ Some ending.Spent → ⊥
+never_spent Went h = cc
+never_spent (Stopped reason) h = cc
+never_spent (Ended code) h = cc
 
-goes_on_still : (s : Session) (acts : List Act) (moved : ℕ) → EndsStill s (record { acts = acts; moved = moved; ending = None })
+concluded_still : (s : Session) (b : Beat) (p : Program) (outcome : Outcome) → program_of (performed histories b.acts s) ≡ Some (concluded outcome p)
+    → p.owed ≡ None → b.ending ≡ ending_of outcome → EndsStill s b
 unfolding EndsStill
-goes_on_still s acts moved e is never = absurd (let no : None ≡ Some e = is in cc)
+concluded_still s b p Went is owes same e ends never = absurd (cc)
+concluded_still s b p (Stopped reason) is owes same e ends never =
+    stands (performed histories b.acts s) (stopped (why.Met reason) p) is owes refl
+concluded_still s b p (Ended code) is owes same e ends never =
+    stands (performed histories b.acts s) (ended (Some code) p) is owes refl
 
 -- nothing was done, and nothing will be
-same_still : (s : Session) (end : SliceEnd) → Still s → EndsStill s (ends end)
+idle_still : (s : Session) (p : Program) (more : Bool) (end : SliceEnd) → program_of s ≡ Some p → p.owed ≡ None
+    → EndsFor (histories.see s) p more end → EndsStill s (ends end)
 unfolding EndsStill
-same_still s end h e is never = h
-
-spent_still : (s : Session) → EndsStill s (ends ending.Spent)
-unfolding EndsStill
-spent_still s e is never = absurd (never (let same : Some ending.Spent ≡ Some e = is in cc))
-
-tick_still : (s : Session) (p : Program) (tick : Tick)
-    → EndsStill s (record { acts = telling s.now p tick; moved = 0; ending = ending_of tick.outcome })
-unfolding EndsStill
-tick_still s p tick e is never = by tick.outcome refl where
-  by : (outcome : Outcome) → tick.outcome ≡ outcome → Still (performed histories (telling s.now p tick) s)
-  by Went same =
-      absurd (let no : ending_of tick.outcome ≡ Some e = is in let none : ending_of tick.outcome ≡ None = ap ending_of same in cc)
-  by (Stopped reason) same =
-      stands (performed histories (telling s.now p tick) s) (stopped (why.Met reason) (told p))
-      (telling_program s.now p tick s ∙ ap (λ (o : Outcome). let r : Option Program = Some (concluded o (told p)) in r) same) refl refl
-  by (Ended code) same =
-      stands (performed histories (telling s.now p tick) s) (ended (Some code) (told p))
-      (telling_program s.now p tick s ∙ ap (λ (o : Outcome). let r : Option Program = Some (concluded o (told p)) in r) same) refl refl
-
-moves_still : (s : Session) (p : Program) (outcome : Outcome) → p.owed ≡ None → EndsStill s (moves_by s.now p outcome)
-moves_still s p outcome owes =
-    by_move (λ _ b. EndsStill s b) s.now p outcome (λ _ _. goes_on_still s _ 1)
-    (λ cause. halts_still s p (why.Met (met.Exception cause)) owes) (λ code. exits_still s p code owes)
-
-goes_still : (s : Session) (p : Program) (more : Bool) → p.owed ≡ None → EndsStill s (goes s.now p more)
-goes_still s p more owes =
-    if_keeps (EndsStill s) p.machine.check_due _ _ (λ _. goes_on_still s _ 0)
-    (λ _. if_keeps (EndsStill s) (not more) _ _ (λ _. spent_still s)
-    (λ _. if_keeps (EndsStill s) (is_at_limit s.now p) _ _ (λ _. halts_still s p why.Limit owes)
-    (λ _. moves_still s p (next_tick p).outcome owes)))
-
-unless_still : (mark : Option Mark) (s : Session) (p : Program) (more : Bool) → p.owed ≡ None → EndsStill s (goes_unless mark s.now p more)
-unless_still (Some mark) s p more owes = halts_still s p (why_marked mark) owes
-unless_still None s p more owes = goes_still s p more owes
-
-owed_still : (owed : Option Tick) (s : Session) (p : Program) (more : Bool) → program_of s ≡ Some p → p.owed ≡ owed
-    → EndsStill s (beat_by owed (histories.see s) p more)
-owed_still (Some tick) s p more is owes = tick_still s p tick
-owed_still None s p more is owes =
-    if_keeps (EndsStill s) (not (is_runnable_by s.now.link p.run)) _ _
-    (λ idle. same_still s ending.Idle (still_as s (Some p) is (λ again. (
-      ending.Idle,
-      ap (λ (o : Option Tick). beat_by o (histories.see s) p again) owes
-          ∙ ap (λ (b : Bool). cond b (ends ending.Idle)
-          (cond (ltb FULL (length s.waiting)) (ends ending.Full) (goes_unless p.mark s.now p again))) idle,
-    ))))
-    (λ runs. if_keeps (EndsStill s) (ltb FULL (length s.waiting)) _ _
-    (λ full. same_still s ending.Full (still_as s (Some p) is (λ again. (
-      ending.Full,
-      ap (λ (o : Option Tick). beat_by o (histories.see s) p again) owes
-          ∙ ap (λ (b : Bool). cond b (ends ending.Idle)
-          (cond (ltb FULL (length s.waiting)) (ends ending.Full) (goes_unless p.mark s.now p again))) runs
-          ∙ ap (λ (b : Bool). cond b (ends ending.Full) (goes_unless p.mark s.now p again)) full,
-    ))))
-    (λ _. unless_still p.mark s p more owes))
-
-program_still : (program : Option Program) (s : Session) (more : Bool) → program_of s ≡ program
-    → EndsStill s (beat_of program (histories.see s) more)
-program_still None s more is = same_still s ending.Idle (still_as s None is (λ again. (ending.Idle, refl)))
-program_still (Some p) s more is = owed_still p.owed s p more is refl
+idle_still s p more ending.Idle is owes idle e ends never = still_as s (Some p) is (λ again. (ending.Idle, grind arith))
+idle_still s p more ending.Full is owes full e ends never = still_as s (Some p) is (λ again. (ending.Full, grind arith))
+idle_still s p more ending.Spent is owes spent e ends never = absurd (never (let same : Some ending.Spent ≡ Some e = ends in cc))
+idle_still s p more other is owes why e ends never = absurd why
 
 beat_still : (s : Session) (more : Bool) → EndsStill s (beat (histories.see s) more)
-beat_still s more = program_still (program_of s) s more refl
+unfolding EndsStill
+beat_still s more = by_beat (program_of s) (histories.see s) more (EndsStill s)
+    (λ none _ _ _. still_as s None none (λ again. (ending.Idle, refl)))
+    (λ p is. record {
+      tells = λ tick _. concluded_still s (tells_tick s.now p tick) (told p) tick.outcome (telling_program s.now p tick s) refl refl;
+      ends_for = λ e owes why. idle_still s p more e is owes why;
+      stops_for = λ w owes _. leaves_still s (stops s.now p w) (stopped w p) (halts_program s.now p w [] s) owes refl;
+      exits_with = λ code owes _ _. leaves_still s (ends_with s.now p code) (ended (Some code) p) (exits_program s.now p code s) owes refl;
+      enters = λ _ _ _ e ends never. absurd (cc);
+      moves = λ _ _ _ _ _ e ends never. absurd (cc);
+    })
 
 -- ---- how many moves a slice makes
 
 next_few : (n : ℕ) (d : Slicing Session) (e : Option SliceEnd) → d.moved ≤ n → (next_by histories n e d).moved ≤ n
 next_few n d (Some e) h = h
-next_few n d None h = by (ltb d.moved n) refl where
-  by : (more : Bool) → ltb d.moved n ≡ more → (next_by histories n None d).moved ≤ n
-  by true e =
-      let one = (bounded (histories.see d.state) (ltb d.moved n)).few in let less : d.moved < n = grind (arith, nat_tests) in omega
-      (arith, one, less)
-  by false e = let none = (bounded (histories.see d.state) (ltb d.moved n)).none e in omega (arith, none, h)
+next_few n d None h =
+    let b = bounded (histories.see d.state) (ltb d.moved n) in
+    few_more d.moved (beat (histories.see d.state) (ltb d.moved n)).moved n b.few b.none h where
+      few_more : (m k n : ℕ) → k ≤ 1 → (ltb m n ≡ false → k ≡ 0) → m ≤ n → m + k ≤ n
+      few_more m k n one none h = grind (arith, nat_tests)
 
 pub moved_few : (n i : ℕ) (s : Session) → (beats histories n i s).moved ≤ n
 moved_few n zero s = omega arith
@@ -287,15 +204,8 @@ pub record AtEnd (n : ℕ) (d : Slicing Session) : Type 0 where
 spent_again : (s : Session) (more : Bool) → (beat (histories.see s) more).ending ≡ Some ending.Spent
     → beat (histories.see (after_beat histories (beat (histories.see s) more) s)) false ≡ ends ending.Spent
 spent_again s more e =
-    let b = beat (histories.see s) more in
     let limits = bounded (histories.see s) more in
-    let less = limits.spent e in
-    let nothing = limits.still e in
-    let same : after_beat histories b s ≡ s = ap (λ (acts : List Act). performed histories acts s) nothing in
-    let here : beat (histories.see s) false ≡ ends ending.Spent =
-    ap (beat (histories.see s)) (sym less)
-    ∙ (λ i. record { acts = nothing i; moved = limits.none less i; ending = e i }) in
-    subst (λ (t : Session). beat (histories.see t) false ≡ ends ending.Spent) (sym same) here
+    grind (arith, limits.spent e, limits.still e, limits.none (limits.spent e))
 
 next_at_end : (n : ℕ) (d : Slicing Session) (e : Option SliceEnd) → d.ending ≡ e → AtEnd n d → AtEnd n (next_by histories n e d)
 unfolding EndsStill
@@ -310,13 +220,13 @@ next_at_end n d None is h = record {
 }
 
 pub at_end : (n i : ℕ) (s : Session) → AtEnd n (beats histories n i s)
-at_end n zero s = record { spent = λ e. absurd (no_ending e); still = λ e is never. absurd (let no : None ≡ Some e = is in cc) }
+at_end n zero s = record { spent = λ e. absurd (cc); still = λ e is never. absurd (cc) }
 at_end n (suc i) s = next_at_end n (beats histories n i s) (beats histories n i s).ending refl (at_end n i s)
 
 -- ---- each slice ends
 
 pub histories_follow : Follows histories
-unfolding OnlyTells
+unfolding NoneBecome
 histories_follow = record { becomes = λ now q s. becomes_program now q [] s tt; tells = λ s p tick. telling_program s.now p tick s }
 
 -- ---- two slices beside the whole
@@ -327,42 +237,17 @@ going x m = record { state = x; moved = m; ending = None }
 abbrev ended_here : Slicing Session → Slicing Session
 ended_here d = record { state = d.state; moved = d.moved; ending = Some ending.Spent }
 
-abbrev HasNone : Option SliceEnd → Type 0
-HasNone e = e ≡ None
+-- the whole makes the same beat as the first slice, or that ends for want of moves
+abbrev Fork : ℕ → Slicing Session → Option SliceEnd → Slicing Session → Slicing Session → Type 0
+Fork a d e whole first = (whole ≡ first) ⊎ ((e ≡ None) × ((d.moved ≡ a) × (first ≡ ended_here d)))
 
--- the whole makes the same beat, or the first slice ends for want of moves
-abbrev Fork : ℕ → ℕ → Slicing Session → Option SliceEnd → Type 0
-Fork a b d e =
-    (next_by histories (a + b) e d ≡ next_by histories a e d) ⊎ (HasNone e × ((d.moved ≡ a) × (next_by histories a e d ≡ ended_here d)))
-
-fork_alike : (a b : ℕ) (d : Slicing Session) → d.moved ≤ a → ltb d.moved a ≡ false → ltb d.moved (a + b) ≡ true
-    → Alike (beat (histories.see d.state) true) (beat (histories.see d.state) false) → Fork a b d None
-fork_alike a b d least e h (inl x) =
-    inl (ap (λ (y : Bool). with_beat histories (beat (histories.see d.state) y) d) h ∙ ap (λ (y : Beat). with_beat histories y d) (sym x)
-    ∙ ap (λ (y : Bool). with_beat histories (beat (histories.see d.state) y) d) (sym e))
-fork_alike a b d least e h (inr x) =
-    let over : a ≤ d.moved = grind (arith, nat_tests) in
-    let full : d.moved ≡ a = omega (arith, over, least) in
-    let zero_more : d.moved + 0 ≡ d.moved = omega arith in
-    inr (
-      refl,
-      (
-        full,
-        ap (λ (y : Bool). with_beat histories (beat (histories.see d.state) y) d) e ∙ ap
-            (λ (y : Beat). with_beat histories y d) x ∙ (λ i. record { state = d.state; moved = zero_more i; ending = Some ending.Spent }),
-      ),
-    )
-
-fork : (a b : ℕ) (d : Slicing Session) (e : Option SliceEnd) → d.moved ≤ a → Fork a b d e
+fork : (a b : ℕ) (d : Slicing Session) (e : Option SliceEnd) → d.moved ≤ a
+    → Fork a d e (next_by histories (a + b) e d) (next_by histories a e d)
 fork a b d (Some x) least = inl refl
-fork a b d None least = by (ltb d.moved a) refl (ltb d.moved (a + b)) refl where
-  by : (f : Bool) → ltb d.moved a ≡ f → (g : Bool) → ltb d.moved (a + b) ≡ g → Fork a b d None
-  by true e true h = inl (ap (λ (x : Bool). with_beat histories (beat (histories.see d.state) x) d) (h ∙ sym e))
-  by false e false h = inl (ap (λ (x : Bool). with_beat histories (beat (histories.see d.state) x) d) (h ∙ sym e))
-  by true e false h =
-      absurd (let less : d.moved < a = grind (arith, nat_tests) in let more : a + b ≤ d.moved = grind (arith, nat_tests) in omega
-      (arith, less, more))
-  by false e true h = fork_alike a b d least e h (beat_alike (histories.see d.state))
+fork a b d None least = forks (program_alike d.state.now.debuggee.program (histories.see d.state)) where
+  forks : Alike (beat (histories.see d.state) true) (beat (histories.see d.state) false)
+      → Fork a d None (next_by histories (a + b) None d) (next_by histories a None d)
+  forks alike = grind (arith, nat_tests)
 
 -- the first slice has ended for want of moves, and the whole continued from there
 record Split (a b : ℕ) (s : Session) (d : Slicing Session) : Type 0 where
@@ -374,26 +259,26 @@ record Split (a b : ℕ) (s : Session) (d : Slicing Session) : Type 0 where
 abbrev Beside : ℕ → ℕ → Session → ℕ → Type 0
 Beside a b s i = (beats histories (a + b) i s ≡ beats histories a i s) ⊎ Split a b s (beats histories a i s)
 
-beside_next : (a b : ℕ) (s : Session) (i : ℕ) → Beside a b s i → Beside a b s (suc i)
+beside : (a b : ℕ) (s : Session) (i : ℕ) → Beside a b s i
 unfolding going
-beside_next a b s i (inr h) =
-    inr (subst (Split a b s) (sym (ap (λ (e : Option SliceEnd). next_by histories a e (beats histories a i s)) h.ended)) h)
-beside_next a b s i (inl same) = by (fork a b d d.ending (moved_few a i s)) where
+beside a b s zero = inl refl
+beside a b s (suc i) = next (beside a b s i) where
   d : Slicing Session
   d = beats histories a i s
 
-  by : Fork a b d d.ending → Beside a b s (suc i)
-  by (inl f) = inl (ap (next_beat histories (a + b)) same ∙ f)
-  by (inr f) = inr (subst (Split a b s) (sym f.1.1) (record {
+  forked : beats histories (a + b) i s ≡ d → Fork a d d.ending (next_by histories (a + b) d.ending d) (next_by histories a d.ending d)
+      → Beside a b s (suc i)
+  forked same (inl f) = inl (ap (next_beat histories (a + b)) same ∙ f)
+  forked same (inr f) = inr (subst (Split a b s) (sym f.1.1) (record {
     ended = refl;
     full = f.1.0;
     at = i;
     there = same ∙ (λ j. record { state = d.state; moved = d.moved; ending = f.0 j });
   }))
 
-beside : (a b : ℕ) (s : Session) (i : ℕ) → Beside a b s i
-beside a b s zero = inl refl
-beside a b s (suc i) = beside_next a b s i (beside a b s i)
+  next : Beside a b s i → Beside a b s (suc i)
+  next (inl same) = forked same (fork a b d d.ending (moved_few a i s))
+  next (inr h) = inr (subst (Split a b s) (sym (ap (λ (e : Option SliceEnd). next_by histories a e d) h.ended)) h)
 
 -- ---- the second slice is what the whole has left
 
@@ -401,27 +286,13 @@ shifted : ℕ → Slicing Session → Slicing Session
 shifted a d = record { state = d.state; moved = a + d.moved; ending = d.ending }
 
 shift_test : (a b m : ℕ) → ltb (a + m) (a + b) ≡ ltb m b
-shift_test a b m = by (ltb m b) refl (ltb (a + m) (a + b)) refl where
-  by : (f : Bool) → ltb m b ≡ f → (g : Bool) → ltb (a + m) (a + b) ≡ g → ltb (a + m) (a + b) ≡ ltb m b
-  by true e true h = h ∙ sym e
-  by false e false h = h ∙ sym e
-  by true e false h =
-      absurd (let less : m < b = grind (arith, nat_tests) in let more : a + b ≤ a + m = grind (arith, nat_tests) in omega
-      (arith, less, more))
-  by false e true h =
-      absurd (let more : b ≤ m = grind (arith, nat_tests) in let less : a + m < a + b = grind (arith, nat_tests) in omega
-      (arith, less, more))
+shift_test a b m = grind (arith, nat_tests)
 
 next_shifted : (a b : ℕ) (d : Slicing Session) (e : Option SliceEnd) → d.ending ≡ e
     → next_by histories (a + b) e (shifted a d) ≡ shifted a (next_by histories b e d)
 unfolding shifted
 next_shifted a b d (Some x) is = refl
-next_shifted a b d None is =
-    let B : Bool → Beat = beat (histories.see d.state) in
-    let sum : a + d.moved + (B (ltb d.moved b)).moved ≡ a + (d.moved + (B (ltb d.moved b)).moved) = omega arith in
-    ap (λ (more : Bool). with_beat histories (B more) (record { state = d.state; moved = a + d.moved; ending = d.ending }))
-    (shift_test a b d.moved)
-    ∙ (λ i. record { state = after_beat histories (B (ltb d.moved b)) d.state; moved = sum i; ending = (B (ltb d.moved b)).ending })
+next_shifted a b d None is = grind (arith, nat_tests)
 
 whole_shifted : (a b k : ℕ) (x : Session) → beats_on histories (a + b) k (going x a) ≡ shifted a (beats histories b k x)
 unfolding going shifted
@@ -430,10 +301,8 @@ whole_shifted a b (suc k) x =
     ap (next_beat histories (a + b)) (whole_shifted a b k x) ∙ next_shifted a b (beats histories b k x) (beats histories b k x).ending refl
 
 beats_after : (n j i : ℕ) (d : Slicing Session) → beats_on histories n (j + i) d ≡ beats_on histories n i (beats_on histories n j d)
-beats_after n j zero d = let e : j + zero ≡ j = omega arith in ap (λ (x : ℕ). beats_on histories n x d) e
-beats_after n j (suc i) d =
-    let e : j + suc i ≡ suc (j + i) = omega arith in ap (λ (x : ℕ). beats_on histories n x d) e ∙ ap (next_beat histories n)
-    (beats_after n j i d)
+beats_after n j zero d = grind arith
+beats_after n j (suc i) d = let e : j + suc i ≡ suc (j + i) = omega arith in rw e (ap (next_beat histories n) (beats_after n j i d))
 
 -- ---- so they join
 
@@ -446,29 +315,17 @@ at_once b x e is =
     sym (is_sliced histories histories_follow b 1 x e (ap (λ (d : Slicing Session). d.ending) one)) ∙ one
 
 -- both leave the same, and the moves add up
-record Join (a b : ℕ) (s : Session) : Type 0 where
-  state : (sliced histories b (sliced histories a s).state).state ≡ (sliced histories (a + b) s).state
-  moved : (sliced histories a s).moved + (sliced histories b (sliced histories a s).state).moved ≡ (sliced histories (a + b) s).moved
+abbrev Join : ℕ → ℕ → Session → Type 0
+Join a b s = let first = sliced histories a s in let second = sliced histories b first.state in
+    let whole = sliced histories (a + b) s in (second.state ≡ whole.state) × (first.moved + second.moved ≡ whole.moved)
 
 joins_at_once : (a b : ℕ) (s : Session) (e : SliceEnd) → sliced histories (a + b) s ≡ sliced histories a s
     → beat (histories.see (sliced histories a s).state) (ltb 0 b) ≡ ends e → Join a b s
-joins_at_once a b s e whole is =
-    let second = at_once b (sliced histories a s).state e is in
-    let none : (sliced histories a s).moved + 0 ≡ (sliced histories a s).moved = omega arith in
-    record {
-      state = ap (λ (d : Slicing Session). d.state) second ∙ ap (λ (d : Slicing Session). d.state) (sym whole);
-      moved =
-          ap (λ (d : Slicing Session). (sliced histories a s).moved + d.moved) second ∙ none ∙ ap (λ (d : Slicing Session). d.moved)
-          (sym whole);
-    }
+joins_at_once a b s e whole is = grind (arith, at_once b (sliced histories a s).state e is)
 
-is_spent : (e : SliceEnd) → (e ≡ ending.Spent) ⊎ (e ≡ ending.Spent → ⊥)
-is_spent ending.Spent = inl refl
-is_spent _ = inr (λ h. cc)
-
-joins : (a b : ℕ) (s : Session) → Join a b s
+pub slices_join : (s : Session) → SlicesJoin s
 unfolding going shifted
-joins a b s = by (beside a b s (enough a)) where
+slices_join s a b = by (beside a b s (enough a)) where
   first : Slicing Session
   first = sliced histories a s
 
@@ -484,31 +341,25 @@ joins a b s = by (beside a b s (enough a)) where
       (h.there ∙ (λ i. record { state = x; moved = h.full i; ending = None })) ∙ whole_shifted a b (enough b) x in
       let end : sliced histories (a + b) s ≡ shifted a (sliced histories b x) =
       sym (is_sliced histories histories_follow (a + b) (h.at + enough b) s second.0
-      (ap (λ (d : Slicing Session). d.ending) whole ∙ second.1)) ∙ whole in
-      record {
-        state = ap (λ (d : Slicing Session). d.state) (sym end);
-        moved = ap (λ (m : ℕ). m + (sliced histories b x).moved) h.full ∙ ap (λ (d : Slicing Session). d.moved) (sym end);
-      }
-  by (inl same) = by_end (is_spent there.0) where
+      (ap (λ (d : Slicing Session). d.ending) whole ∙ second.1)) ∙ whole in (
+        ap (λ (d : Slicing Session). d.state) (sym end),
+        ap (λ (m : ℕ). m + (sliced histories b x).moved) h.full ∙ ap (λ (d : Slicing Session). d.moved) (sym end),
+      )
+  by (inl same) = ended there.0 there.1 where
     whole : sliced histories (a + b) s ≡ first
     whole =
         sym (is_sliced histories histories_follow (a + b) (enough a) s there.0 (ap (λ (d : Slicing Session). d.ending) same ∙ there.1))
         ∙ same
 
-    by_end : (there.0 ≡ ending.Spent) ⊎ (there.0 ≡ ending.Spent → ⊥) → Join a b s
-    by_end (inr never) = let x = (at_end a (enough a) s).still there.0 there.1 never (ltb 0 b) in joins_at_once a b s x.0 whole x.1
-    by_end (inl spent) =
-        let ended : first.ending ≡ Some ending.Spent = there.1 ∙ ap (λ e. Some e) spent in
-        let over : a + b ≤ (sliced histories (a + b) s).moved =
-        ((at_end (a + b) (enough (a + b)) s).spent (ap (λ (d : Slicing Session). d.ending) whole ∙ ended)).0 in
+    ended : (e : SliceEnd) → first.ending ≡ Some e → Join a b s
+    ended ending.Spent spent =
+        let over = ((at_end (a + b) (enough (a + b)) s).spent (ap (λ (d : Slicing Session). d.ending) whole ∙ spent)).0 in
         let few : first.moved ≤ a = moved_few a (enough a) s in
         let equal : (sliced histories (a + b) s).moved ≡ first.moved = ap (λ (d : Slicing Session). d.moved) whole in
-        let none : ltb 0 b ≡ false = (let zero_b : b ≡ 0 = omega (arith, over, few, equal) in ap (ltb 0) zero_b) in
-        let again = ((at_end a (enough a) s).spent ended).1 in
-        joins_at_once a b s ending.Spent whole (ap (beat (histories.see first.state)) none ∙ again)
-
-pub slices_join : (s : Session) → SlicesJoin s
-slices_join s a b = let j = joins a b s in (j.state, j.moved)
+        let none : b ≡ 0 = omega (arith, over, few, equal) in
+        joins_at_once a b s ending.Spent whole
+        (ap (λ (n : ℕ). beat (histories.see first.state) (ltb 0 n)) none ∙ ((at_end a (enough a) s).spent spent).1)
+    ended other is = let x = (at_end a (enough a) s).still other is (λ h. cc) (ltb 0 b) in joins_at_once a b s x.0 whole x.1
 
 pub slices_end : (s : Session) → SlicesEnd s
 slices_end s n =

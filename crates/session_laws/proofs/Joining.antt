@@ -1,6 +1,6 @@
 -- Requests that join those that wait: none is lost, and they stand in their order.
-use Rattle.session_laws.proofs.Common.{[], all_joined, ap, append-nil, append_assoc, Arrivals, Ask, Bool, cancelled_by, cancels, false, if◌then◌else◌, is_above, is_named, joined, List, map, map-append, None, number_of, Option, Pending, pending_with, refl, Some, sym, true, ℤ, ◌++◌, ◌∙◌, ◌∷◌, ◌≡◌}
-use Rattle.queues.specs.declared.pending.Fate.TheVariants.{Waits, Repeated, Cancelled}
+use Rattle.session_laws.proofs.Common.{[], all_joined, ap, append-nil, append_assoc, Arrivals, Ask, cancelled_by, cancels, if_keeps, is_above, is_named, joined, List, map, map-append, None, number_of, Option, Pending, pending_with, refl, Some, sym, ℤ, ◌++◌, ◌∙◌, ◌∷◌, ◌≡◌}
+use Rattle.queues.specs.declared.pending.Fate.TheVariants.{Waits, Repeated}
 
 -- what is seen of the requests that wait, by what is seen of one
 abbrev pub seen_as : {X : Type 0} → (Ask → X) → List Pending → List X
@@ -9,10 +9,8 @@ seen_as f pending = map (λ p. f p.ask) pending
 same_asks : {X : Type 0} (f : Ask → X) (id : ℤ) (pending : List Pending) → seen_as f (map (cancelled_by id) pending) ≡ seen_as f pending
 same_asks f id [] = refl
 same_asks f id (p ∷ pending) =
-    ap (λ x. x ∷ seen_as f (map (cancelled_by id) pending)) (same (is_named id p)) ∙ ap (λ l. f p.ask ∷ l) (same_asks f id pending) where
-      same : (b : Bool) → f (let q : Pending = if b then record p { fate = Cancelled } else p in q).ask ≡ f p.ask
-      same true = refl
-      same false = refl
+    ap (λ x. x ∷ seen_as f (map (cancelled_by id) pending)) (if_keeps (λ (q : Pending). f q.ask ≡ f p.ask) (is_named id p) _ _ (λ _. refl) (λ _. refl))
+    ∙ ap (λ l. f p.ask ∷ l) (same_asks f id pending)
 
 seen_as-append : {X : Type 0} (f : Ask → X) (xs ys : List Pending) → seen_as f (xs ++ ys) ≡ seen_as f xs ++ seen_as f ys
 seen_as-append f xs ys = map-append (λ (p : Pending). f p.ask) xs ys
@@ -25,12 +23,10 @@ pending_with_as f (Some id) pending ask =
 
 joined_as : {X : Type 0} (f : Ask → X) (came : Arrivals) (ask : Ask)
     → seen_as f (joined came ask).pending ≡ seen_as f came.pending ++ f ask ∷ []
-joined_as f came ask = by_test (is_above came.highest (number_of ask)) where
-  by_test : (b : Bool)
-      → seen_as f (let a : Arrivals = if b then record { highest = Some (number_of ask); pending = pending_with (cancels ask) came.pending ask } else record { highest = came.highest; pending = came.pending ++ record { ask = ask; fate = Repeated } ∷ [] } in a).pending
-      ≡ seen_as f came.pending ++ f ask ∷ []
-  by_test true = pending_with_as f (cancels ask) came.pending ask
-  by_test false = seen_as-append f came.pending (record { ask = ask; fate = Repeated } ∷ [])
+joined_as f came ask =
+    if_keeps (λ (a : Arrivals). seen_as f a.pending ≡ seen_as f came.pending ++ f ask ∷ []) (is_above came.highest (number_of ask)) _ _
+    (λ _. pending_with_as f (cancels ask) came.pending ask)
+    (λ _. seen_as-append f came.pending (record { ask = ask; fate = Repeated } ∷ []))
 
 pub all_joined_as : {X : Type 0} (f : Ask → X) (asks : List Ask) (came : Arrivals)
     → seen_as f (all_joined came asks).pending ≡ seen_as f came.pending ++ map f asks

@@ -1,40 +1,40 @@
--- Each answer is proper.
-use Rattle.session_laws.proofs.Common.{[], All, All-nil, All-push, All-weaker, answer_on, answer_to, answering, Answering, AnswersAreProper, arith, Beginning, Bool, by_success, BySuccess, closing, codes, Command, Done, each_life, Event as IsEvent, false, given_of, Happened, Has, histories, hung_on, if_keeps, IfOk, IsNarrowRow, Life, Link, List, Looks, ltb, map, name_asked, name_of, None, not_absent, Now, number_of, of_answer, Ok, Option, Pending, performed, performed_append, performed_on, Program, Reached, refl, Refusal, replied_on, Response, response_to, ResponseBody, Result, Run, run_of, Said, said_next, said_on, saying, seen_in, Session, SetsList, Some, subst, sym, Tell, Terms, true, Wanted, ℕ, ◌+◌, ◌<◌, ◌^◌, ◌∷◌, ◌≡◌, ◌≤◌}
-use Rattle.answers.specs.Laws.{HoldsWords, IsNarrow, NumbersFit}
+-- Each message is proper, and says what is so of the program's run; and `initialize` succeeds once at most on a connection.
+use Rattle.session_laws.proofs.Common.{[], All, All-nil, All-push, All-weaker, answer_on, answer_to, Answering, AnswersAreProper, arith, AsksLinesWithin, Beginning, Bool, by_success, BySuccess, codes, Command, Done, each_life, Event as IsEvent, false, first_run, given_of, Happened, Has, has_program, IfOk, initializes, initializes_by, InitializesOnce, is_plain, is_resume, is_running, is_success, is_taken_in, IsNarrowRow, IsPlain, IsProperEvent, Life, life_of, Link, List, Looks, Message, name_asked, name_of, None, not_absent, Now, number_of, of_answer, Ok, Option, Pending, Phase, Program, Reached, refl, Refusal, Response, response_to, ResponseBody, restarted, Result, resumed, Run, RunsAreTold, RunsAs, Said, said_next, saying, SaysItsRun, seen_in, Session, SetsList, Setting, Some, subst, sym, Terms, times_initialized, Told, true, Wanted, ℕ, ◌&&◌, ◌++◌, ◌+◌, ◌<◌, ◌^◌, ◌∙◌, ◌∷◌, ◌≡◌, ◌≤◌}
 use Rattle.answers.proofs.Proper.{answers_are_proper as breaks_are_proper}
-use Rattle.debuggee.specs.declared.run.Run.TheVariants.{Running, Stopped, Ended}
-use Rattle.handlers.specs.ConfigurationDone.{run_events}
-use Rattle.image.specs.Lines.{line_in, start_of}
-use Rattle.protocol.specs.Laws.{AsksLinesWithin}
-use Rattle.replies.specs.Events.{IsProperEvent}
-use Rattle.replies.specs.Messages.{IsProper}
-use Rattle.replies.specs.Responses.{IsOutcomeOf}
-use Rattle.replies.specs.declared.event.Event.{Event as Told}
-use Rattle.replies.specs.declared.response.Outcome.{Outcome}
-use Rattle.handlers.specs.Views.{view_of}
-use Rattle.session_laws.proofs.ByForms.{on, on_with, with_change}
-use Rattle.session_laws.proofs.Turning.{BoundsIn, KeptByEvents, reached_by_events}
-use Rattle.session_laws.proofs.Asked.{AreRead, IsRead, asks_that_wait, has_no_text, number_is}
-use Rattle.handlers.specs.Phases.{base_of}
-use Rattle.answers.specs.declared.set_variable.Setting.{Setting}
-use Rattle.answers.specs.declared.write_memory.Writing.{Writing}
 use Rattle.answers.proofs.ProperLooking.{looks_are_proper}
 use Rattle.answers.proofs.ProperValues.{settings_are_proper, writings_are_proper}
-use Rattle.session.proofs.Orderly.{Orderly, OrderlyIn, OrderlyOf, stop_is_proper}
+use Rattle.answers.specs.Laws.{HoldsWords, IsNarrow, NumbersFit}
+use Rattle.answers.specs.declared.write_memory.Writing.{Writing}
+use Rattle.handlers.specs.Phases.{base_of, is_fresh_in}
+use Rattle.handlers.specs.Views.{view_of}
+use Rattle.handlers.specs.declared.phase.Phase.TheVariants.{Fresh}
+use Rattle.image.specs.Lines.{line_in, start_of}
+use Rattle.replies.specs.Messages.{IsProper}
+use Rattle.replies.specs.Responses.{IsOutcomeOf}
+use Rattle.session.proofs.Orderly.{Orderly, OrderlyIn, OrderlyOf}
+use Rattle.session_laws.proofs.Asked.{IsRead, has_no_text, number_is}
+use Rattle.session_laws.proofs.ByForms.{on, on_with}
+use Rattle.session_laws.proofs.Turning.{answer_orderly, agreed_with, changed, once_answered, BoundsIn, KeptByEvents, KeptByTelling, reached_by_events, runs_as}
+
+-- ---- how often `initialize` can have succeeded in a phase
+
+abbrev Suits : Phase → ℕ → Type 0
+Suits Fresh n = n ≡ 0
+Suits _ n = n ≤ 1
+
+fewer : (phase : Phase) (n k : ℕ) → Suits phase (n + k) → Suits phase (n + 0)
+fewer phase n k h = grind arith
+
+few_in : (phase : Phase) (n : ℕ) → Suits phase n → n ≤ 1
+few_in phase n h = grind arith
+
+first_time : (phase : Phase) (n : ℕ) → is_fresh_in phase ≡ true → Suits phase (n + 0) → n + 1 ≤ 1
+first_time phase n e h = grind arith
 
 -- ---- one answer
 
 within : (n : ℕ) → n ≤ 2147483647 → n < 4294967296
 within n h = omega (arith, h)
-
--- what is told after an answer
-abbrev AllTold : List Told → Type 0
-AllTold [] = Unit {0}
-AllTold (e ∷ es) = IsProperEvent e × AllTold es
-
-record Fits (command : List ℕ) (a : Answering) : Type 0 where
-  outcome : IsOutcomeOf command a.outcome
-  events : AllTold a.events
 
 -- the line table of a program is narrow
 narrow_table : (p : Program) → Orderly p → IsNarrow p.image.lines
@@ -50,174 +50,198 @@ holds_words p h =
     record { pc = m.pc; registers = m.x.words; memory = m.memory; calls = h.range.machine.calls.words; few = h.range.machine.calls.few }
 
 base_small : (starts_at1 : Bool) → base_of starts_at1 < 2 ^ 32
-base_small true = omega arith
-base_small false = omega arith
+base_small starts_at1 = grind arith
 
--- how a program runs that was joined
-run_is_told : (run : Option Run) → AllTold (run_events run)
-run_is_told None = tt
-run_is_told (Some Running) = (refl, tt)
-run_is_told (Some (Stopped why)) = (stop_is_proper why [] tt, tt)
-run_is_told (Some (Ended code)) = tt
+abbrev Goes : Run → Type 0
+Goes run = is_running run ≡ true
 
--- the body of a success is that of its request
-abbrev FitsTaken : Now → Command → Answering → Type 0
-FitsTaken now c a = Has (given_of now) c → AsksLinesWithin c → Fits (name_of c) a
+-- An answer to a request of that name has the body of its request, lets the program continue only where it does, and agrees on
+-- a phase that suits how often `initialize` has succeeded then.
+record Fits (n : ℕ) (name : List ℕ) (a : Answering) : Type 0 where
+  outcome : IsOutcomeOf name a.outcome
+  runs : (is_success a.outcome && is_resume name) ≡ true → RunsAs Goes a.debuggee
+  suits : Suits a.terms.phase (n + initializes a.outcome)
 
-module _ (now : Now) (terms : Terms) (few : BoundsIn now) (h : OrderlyIn now.debuggee) where
+never : {A : Type 0} → false ≡ true → A
+never e = absurd (cc)
+
+-- the answer to a request that its phase takes, with the program that it asks for
+abbrev FitsTaken : Now → Terms → ℕ → Command → Answering → Type 0
+FitsTaken now terms n c a = is_taken_in terms.phase c ≡ true → Has (given_of now) c → AsksLinesWithin c → Fits n (name_of c) a
+
+module _ (now : Now) (terms : Terms) (b : BoundsIn now) (h : OrderlyIn now.debuggee) (n : ℕ) (s : Suits terms.phase (n + 0)) where
+  few : n + 0 ≤ 1
+  few = few_in terms.phase (n + 0) s
+
   abbrev IsOf : Command → Result ResponseBody Refusal → Type 0
   IsOf c result = IfOk result (λ b. IsOutcomeOf (name_of c) (Done b))
 
-  set_is_of : (c : Command) → SetsList c → AsksLinesWithin c → (p : Program) (b : ResponseBody) (list : Option (List Wanted))
-      → now.debuggee.program ≡ Some p → (answer_on p (given_of now) terms c).result ≡ Ok b
-      → (answer_on p (given_of now) terms c).list ≡ list → NumbersFit (now.debuggee.last_break + 1) list → IsOutcomeOf (name_of c) (Done b)
-  set_is_of c kind asks p b list is e f fit =
+  set_is_of : (c : Command) → SetsList c → AsksLinesWithin c → (p : Program) (body : ResponseBody) (list : Option (List Wanted))
+      → now.debuggee.program ≡ Some p → (answer_on p (given_of now) terms c).result ≡ Ok body
+      → (answer_on p (given_of now) terms c).list ≡ list → NumbersFit (now.debuggee.last_break + 1) list → IsOutcomeOf (name_of c) (Done body)
+  set_is_of c kind asks p body list is e f fit =
       let o : Orderly p = subst OrderlyOf is h in
       subst (IsOf c) e
       (breaks_are_proper c p.image.lines p.machine.size (view_of terms p) (now.debuggee.last_break + 1) kind.sets
       (narrow_table p o) o.range.machine.end asks
       (subst (NumbersFit (now.debuggee.last_break + 1)) (sym f) fit))
 
-  shown_is_of : (c : Command) → Looks c → (p : Program) (b : ResponseBody) → now.debuggee.program ≡ Some p
-      → (seen_in p (given_of now) terms c).result ≡ Ok b → IsOutcomeOf (name_of c) (Done b)
-  shown_is_of c kind p b is e =
+  shown_is_of : (c : Command) → Looks c → (p : Program) (body : ResponseBody) → now.debuggee.program ≡ Some p
+      → (seen_in p (given_of now) terms c).result ≡ Ok body → IsOutcomeOf (name_of c) (Done body)
+  shown_is_of c kind p body is e =
       let o : Orderly p = subst OrderlyOf is h in
       subst (IsOf c) e
       (looks_are_proper c p.machine p.image.lines now.numbers (view_of terms p) kind.looks (holds_words p o) (narrow_table p o)
-      (record { within = few.numbers.0; last = few.numbers.1 }) (base_small terms.columns_start_at1))
+      (record { within = b.numbers.0; last = b.numbers.1 }) (base_small terms.columns_start_at1))
 
-  successes_fit : BySuccess (given_of now) terms (FitsTaken now)
+  set_is_plain : (c : Command) → SetsList c → (p : Program) (body : ResponseBody) → (answer_on p (given_of now) terms c).result ≡ Ok body
+      → initializes (Done body) ≡ 0
+  set_is_plain c kind p body e = subst IsPlain e (is_plain p (given_of now) terms c kind.sets)
+
+  suited : (i : ℕ) → i ≡ 0 → Suits terms.phase (n + i)
+  suited i none = subst (λ (k : ℕ). Suits terms.phase (n + k)) (sym none) s
+
+  successes_fit : BySuccess (given_of now) terms (FitsTaken now terms n)
   successes_fit = record {
-    initialized = λ _ _ _. record { outcome = (refl, refl); events = tt };
-    unreadable = λ _ _ _. record { outcome = refl; events = tt };
-    loaded = λ _ _ _ _ _. record { outcome = (refl, refl); events = (refl, tt) };
-    wrong = λ _ _ _ _ _ _. record { outcome = refl; events = tt };
-    attaches = λ _ _. record { outcome = (refl, refl); events = (refl, tt) };
-    begun = λ _ _ _. record { outcome = (refl, refl); events = tt };
-    joined = λ _ _ _. record { outcome = (refl, refl); events = run_is_told (run_of now.debuggee.program) };
-    agreed = λ _ kind _ _. record { outcome = kind.outcome; events = tt };
-    restarts = λ _ _. record { outcome = (refl, refl); events = tt };
-    terminates = λ _ _. record { outcome = (refl, refl); events = (refl, tt) };
-    leaves = λ _ _ _. record { outcome = (refl, refl); events = tt };
-    pauses = λ _ _ _. record { outcome = (refl, refl); events = tt };
-    stepped = λ _ kind _ _ _. record { outcome = kind.outcome; events = tt };
-    absent = λ c about none there _. not_absent (given_of now) c about there none;
-    refused = λ _ _ refusal plain _ _. record { outcome = sym plain; events = tt };
-    sets_none = λ c kind p b is e f _ asks. record { outcome = set_is_of c kind asks p b None is e f tt; events = tt };
-    sets_list =
-        λ c kind p b list is e f within _ asks. record {
-          outcome = set_is_of c kind asks p b (Some list) is e f
-              (let least = few.references in omega (arith, within, least));
-          events = tt;
-        };
-    shows = λ c kind p b is e _ _ _ _. record { outcome = shown_is_of c kind p b is e; events = tt };
-    sets_register = λ arguments p setting is e _ _ _. record {
+    initialized = λ _ taken _ _. record { outcome = (refl, refl); runs = never; suits = first_time terms.phase n taken s };
+    unreadable = λ _ _ _ _. record { outcome = refl; runs = never; suits = s };
+    loaded = λ _ _ _ _ _ _. record { outcome = (refl, refl); runs = never; suits = few };
+    wrong = λ _ _ _ _ _ _ _. record { outcome = refl; runs = never; suits = s };
+    attaches = λ _ _ _. record { outcome = (refl, refl); runs = never; suits = few };
+    begun = λ _ _ _ _. record { outcome = (refl, refl); runs = never; suits = few };
+    joined = λ _ _ _ _. record { outcome = (refl, refl); runs = never; suits = few };
+    agreed = λ c kind _ _ _. record { outcome = kind.outcome; runs = λ e. never (sym kind.stays ∙ e); suits = suited _ kind.plain };
+    restarts = λ _ there _. record {
+      outcome = (refl, refl);
+      runs = λ _. runs_as Goes (λ p. first_run (restarted p)) now.debuggee.program there (λ _. refl);
+      suits = s;
+    };
+    terminates = λ _ _ _. record { outcome = (refl, refl); runs = never; suits = s };
+    leaves = λ _ _ _ _. record { outcome = (refl, refl); runs = never; suits = few };
+    pauses = λ _ _ _ _. record { outcome = (refl, refl); runs = never; suits = s };
+    stepped = λ c kind g _ there _. record {
+      outcome = kind.outcome;
+      runs = λ _. runs_as Goes (resumed g) now.debuggee.program (has_program (given_of now) c kind.loaded there) (λ _. refl);
+      suits = suited _ kind.plain;
+    };
+    absent = λ c about none _ there _. not_absent (given_of now) c about there none;
+    refused = λ _ _ refusal plain _ _ _. record { outcome = sym plain; runs = never; suits = s };
+    sets_none = λ c kind p body is e f _ _ asks. record {
+      outcome = set_is_of c kind asks p body None is e f tt;
+      runs = λ x. never (sym kind.about.stays ∙ x);
+      suits = suited _ (set_is_plain c kind p body e);
+    };
+    sets_list = λ c kind p body list is e f within _ _ asks. record {
+      outcome = set_is_of c kind asks p body (Some list) is e f (let least = b.references in omega (arith, within, least));
+      runs = λ x. never (sym kind.about.stays ∙ x);
+      suits = suited _ (set_is_plain c kind p body e);
+    };
+    shows = λ c kind p body is e none _ _ _ _. record {
+      outcome = shown_is_of c kind p body is e;
+      runs = λ x. never (sym kind.about.stays ∙ x);
+      suits = suited _ none;
+    };
+    sets_register = λ arguments p setting is e none _ _ _. record {
       outcome =
           subst (λ (r : Result Setting Refusal). IfOk r (λ s. IsOutcomeOf (codes "setVariable") (Done s.body))) e
           (settings_are_proper arguments p.machine now.numbers);
-      events = tt;
+      runs = never;
+      suits = suited _ none;
     };
-    writes = λ arguments p writing is e _ _ _. record {
+    writes = λ arguments p writing is e none _ _ _. record {
       outcome =
           subst (λ (r : Result Writing Refusal). IfOk r (λ w. IsOutcomeOf (codes "writeMemory") (Done w.body))) e
           (writings_are_proper arguments p.machine.memory);
-      events = tt;
+      runs = never;
+      suits = suited _ none;
     };
   }
 
-answer_fits : (now : Now) (terms : Terms) (file : Option (List ℕ)) (p : Pending) → IsRead p.ask → BoundsIn now → OrderlyIn now.debuggee
-    → Fits (name_asked p.ask) (answer_to now terms file p)
-answer_fits now terms file p h bounds orderly =
-    of_answer (λ ask answer. IsRead ask → Fits (name_asked ask) answer) now terms file p.ask p.fate
-    (λ refusal is read. record { outcome = sym (has_no_text p.ask refusal read is); events = tt })
-    (λ r taken meets read. by_success (given_of now) terms (FitsTaken now)
-    (successes_fit now terms bounds orderly) file r.command meets.loaded read.1.0) h
+  answer_fits : (file : Option (List ℕ)) (p : Pending) → IsRead p.ask → Fits n (name_asked p.ask) (answer_to now terms file p)
+  answer_fits file p read =
+      of_answer (λ ask answer. IsRead ask → Fits n (name_asked ask) answer) now terms file p.ask p.fate
+      (λ refusal is read. record { outcome = sym (has_no_text p.ask refusal read is); runs = never; suits = s })
+      (λ r taken meets read. by_success (given_of now) terms (FitsTaken now terms n) successes_fit file r.command taken meets.loaded
+      read.1.0) read
 
 -- ---- every session
 
--- an outcome is of the first that waits, if one does
-abbrev FitsFirst : List Pending → Outcome → Type 0
-FitsFirst [] outcome = Unit {0}
-FitsFirst (p ∷ rest) outcome = IsOutcomeOf (name_asked p.ask) outcome
+abbrev IsSound : Said → Type 0
+IsSound m = IsProper m.message × SaysItsRun m.message m.snapshot.debuggee
 
-abbrev AllProper : Life → Type 0
-AllProper life = All (λ (m : Said). IsProper m.message) life.said
+record AllSound (said : List Said) : Type 0 where
+  each : All IsSound said
+  once : times_initialized said ≤ 1
 
-record Proper (s : Session) : Type 0 where
-  before : All AllProper s.before
-  present : AllProper s.life
+abbrev Sound : Life → Type 0
+Sound life = AllSound life.said
 
--- an answer to the first that waits
-replies : (l : Option Link) (pending : List Pending) (outcome : Outcome) (s : Session) → AreRead (asks_that_wait pending)
-    → FitsFirst pending outcome → Proper (on_with l pending s) → Proper (replied_on pending outcome (on_with l pending s))
-replies l [] outcome s r fits h = h
-replies None (p ∷ rest) outcome s r fits h = h
-replies (Some l) (p ∷ rest) outcome s r fits h =
-    let m : Said = said_next s.now l (Response (response_to p.ask outcome)) in
-    if_keeps Proper (ltb l.seq s.now.limits.last_seq) _ _
-    (λ _. record {
-      before = h.before;
-      present = All-push (λ (m : Said). IsProper m.message) s.life.said m h.present (within (number_of p.ask) (number_is p.ask r.0), fits);
-    })
-    (λ _. h)
+nothing_said : AllSound []
+nothing_said = record { each = All-nil IsSound; once = omega arith }
 
--- an event is told
-says : (l : Link) (event : Told) (s : Session) → IsProperEvent event → Proper (on (Some l) s)
-    → Proper (saying l (IsEvent event) s.now.arrivals.pending (on (Some l) s))
-says l event s proper h = record {
-  before = h.before;
-  present = All-push (λ (m : Said). IsProper m.message) s.life.said (said_next s.now l (IsEvent event)) h.present proper;
-}
+abbrev SuitsOn : Option Link → ℕ → Type 0
+SuitsOn None n = Unit {0}
+SuitsOn (Some l) n = Suits l.terms.phase n
 
-tells : (l : Option Link) (event : Told) (s : Session) → IsProperEvent event → Proper (on l s)
-    → Proper (said_on l (IsEvent event) s.now.arrivals.pending (on l s))
-tells None event s proper h = h
-tells (Some l) event s proper h = if_keeps Proper (ltb l.seq s.now.limits.last_seq) _ _ (λ _. says l event s proper h) (λ _. h)
+record AreSound (s : Session) : Type 0 where
+  before : All Sound s.before
+  present : Sound s.life
+  suits : SuitsOn s.now.link (times_initialized s.life.said + 0)
 
-tells_all : (events : List Told) (s : Session) → AllTold events → Proper s → Proper (performed histories (map Tell events) s)
-tells_all [] s told h = h
-tells_all (e ∷ es) s told h = tells_all es (performed_on (Tell e) s) told.1 (tells s.now.link e s told.0 h)
+times-append : (xs : List Said) (m : Said) → times_initialized (xs ++ m ∷ []) + 0 ≡ times_initialized xs + initializes_by m.message
+times-append [] m = omega arith
+times-append (x ∷ xs) m = omega (arith, times-append xs m)
 
-hangs : (l : Option Link) (s : Session) → Proper (on l s) → Proper (hung_on l (on l s))
-hangs None s h = h
-hangs (Some l) s h = record { before = h.before; present = h.present }
+-- a message is said
+says : (l : Link) (m : Message) (rest : List Pending) (s : Session) → IsProper m → SaysItsRun m s.now.debuggee
+    → Suits l.terms.phase (times_initialized s.life.said + initializes_by m) → All Sound s.before → Sound s.life
+    → AreSound (saying l m rest (on (Some l) s))
+says l m rest s proper so suits before present =
+    let said : Said = said_next s.now l m in
+    let fits : Suits l.terms.phase (times_initialized (s.life.said ++ said ∷ []) + 0) =
+    subst (Suits l.terms.phase) (sym (times-append s.life.said said)) suits in
+    let few = few_in l.terms.phase (times_initialized (s.life.said ++ said ∷ []) + 0) fits in
+    record {
+      before = before;
+      present = record { each = All-push IsSound s.life.said said present.each (proper, so); once = omega (arith, few) };
+      suits = fits;
+    }
 
-closes_after : (closes : Bool) (s : Session) → Proper s → Proper (performed histories (closing closes) s)
-closes_after true s h = hangs s.now.link s h
-closes_after false s h = h
+tells : KeptByTelling AreSound
+tells l event s proper so _ h = says l (IsEvent event) s.now.arrivals.pending s proper so h.suits h.before h.present
 
-answer_keeps : (l : Link) (p : Pending) (rest : List Pending) (s : Session) (a : Answering) → AreRead (asks_that_wait (p ∷ rest))
-    → Fits (name_asked p.ask) a → Proper (on_with (Some l) (p ∷ rest) s)
-    → Proper (performed histories (answering a) (on_with (Some l) (p ∷ rest) s))
-answer_keeps l p rest s a read fits h =
-    let t : Session = with_change a s in
-    let replied = replied_on (p ∷ rest) a.outcome (on_with (Some (record l { terms = a.terms })) (p ∷ rest) t) in
-    let after : Proper replied = replies (Some (record l { terms = a.terms })) (p ∷ rest) a.outcome t read fits.outcome
-    (record { before = h.before; present = h.present }) in
-    subst Proper (sym (performed_append (map Tell a.events) (closing a.closes) replied))
-    (closes_after a.closes (performed histories (map Tell a.events) replied) (tells_all a.events replied fits.events after))
-
-proper : KeptByEvents Proper
-proper = record {
-  opens =
-      λ s h. record {
-        before = All-push AllProper s.before s.life h.before h.present;
-        present = All-nil
-            (λ (m : Said). IsProper m.message);
-      };
-  closes = λ s h. record { before = h.before; present = h.present };
-  accepts = λ l piece s e h. record { before = h.before; present = h.present };
-  becomes = λ d s h. record { before = h.before; present = h.present };
-  tells = λ l event s proper _ few h. says l event s proper h;
+sound : KeptByEvents AreSound
+sound = record {
+  opens = λ s h. record { before = All-push Sound s.before s.life h.before h.present; present = nothing_said; suits = refl };
+  closes = λ s h. record { before = h.before; present = h.present; suits = tt };
+  accepts = λ l piece s e h. record { before = h.before; present = h.present; suits = h.suits };
+  becomes = λ d s h. record { before = h.before; present = h.present; suits = h.suits };
+  tells = tells;
   answers = λ l p rest file s orderly bounds read h.
-      let t = on_with (Some l) (p ∷ rest) s in
-      answer_keeps l p rest s (answer_to t.now l.terms file p) read (answer_fits t.now l.terms file p read.0 bounds orderly) h;
-  takes = λ n s h. record { before = h.before; present = h.present };
+      let now = (on_with (Some l) (p ∷ rest) s).now in
+      let a : Answering = answer_to now l.terms file p in
+      let n = times_initialized s.life.said in
+      let fits : Fits n (name_asked p.ask) a = answer_fits now l.terms bounds orderly n h.suits file p read.0 in
+      once_answered AreSound tells (λ _ _ x. record { before = x.before; present = x.present; suits = x.suits }) l p rest s a
+      (answer_orderly now l.terms file p read.0 bounds orderly).2
+      (λ _. says (agreed_with l a) (Response (response_to p.ask a.outcome)) rest (changed l (p ∷ rest) s a)
+      (within (number_of p.ask) (number_is p.ask read.0), fits.outcome) fits.runs fits.suits h.before h.present)
+      (record { before = h.before; present = h.present; suits = fewer a.terms.phase n _ fits.suits });
+  takes = λ n s h. record { before = h.before; present = h.present; suits = h.suits };
 }
+
+each_sound : (from : Beginning) (events : List Happened) (c : ℕ) → Sound (life_of c (Reached from events))
+each_sound from events =
+    let h = reached_by_events AreSound sound from (record { before = All-nil Sound; present = nothing_said; suits = tt }) events in
+    each_life Sound (Reached from events) nothing_said h.before h.present
 
 pub answers_are_proper : (from : Beginning) (events : List Happened) → AnswersAreProper (Reached from events)
-answers_are_proper from events =
-    let s = Reached from events in
-    let h : Proper s = reached_by_events Proper proper from
-    (record { before = All-nil AllProper; present = All-nil (λ (m : Said). IsProper m.message) }) events in
-    each_life AllProper s (All-nil (λ (m : Said). IsProper m.message)) h.before h.present
+answers_are_proper from events = λ c. let life = life_of c (Reached from events) in
+    All-weaker IsSound (λ (m : Said). IsProper m.message) (λ m sound. sound.0) life.said (each_sound from events c).each
+
+pub runs_are_told : (from : Beginning) (events : List Happened) → RunsAreTold (Reached from events)
+runs_are_told from events = λ c. let life = life_of c (Reached from events) in
+    All-weaker IsSound (λ (m : Said). SaysItsRun m.message m.snapshot.debuggee) (λ m sound. sound.1) life.said (each_sound from events c).each
+
+pub initializes_once : (from : Beginning) (events : List Happened) → InitializesOnce (Reached from events)
+initializes_once from events = λ c. (each_sound from events c).once

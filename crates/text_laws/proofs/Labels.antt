@@ -1,7 +1,6 @@
 -- The names of labels are plain, and no longer than the text that they stand in.
-use Rattle.text_laws.proofs.Common.{[], All, All-append, All-cons, All-get_or, All-nil, and_parts, arith, Bool, cases_lt, cond, Err, false, get_or_past, IfOk, inl, inr, is_utf8, IsAscii, IsPlain, IsPlainByte, length, length-take, List, list_all, ltb-false, map, nat_tests, None, Ok, onto_first, Option, position, refl, Result, slice_index, slice_split, Some, suc, take, true, ℕ, ⊤, ◌+◌, ◌-◌, ◌==◌, ◌∷◌, ◌≡◌, ◌≤◌}
+use Rattle.text_laws.proofs.Common.{[], All, All-append, All-cons, All-nil, AllByRecursion, and_parts, arith, Bool, cond, Err, false, IfOk, is_utf8, IsPlain, IsPlainByte, length, length-take, List, list_all, ltb-false, map, nat_tests, None, Ok, onto_first, Option, position, refl, Result, slice_index, slice_split, Some, suc, take, true, ℕ, ◌+◌, ◌-◌, ◌==◌, ◌∷◌, ◌≡◌, ◌≤◌}
 use Rattle.std.proofs.Common.{IfSome}
-use Rattle.std.proofs.lemmas.Str.{IsUtf8-from_ascii}
 use Rattle.std.specs.Prelude.{nat_lt}
 use Rattle.std.specs.Str.Lossy.{utf8_valid_len}
 use Rattle.std.specs.Str.Lines.{lines, lines_of_parts, strip_carriage_return}
@@ -21,45 +20,31 @@ use Rattle.assembler.specs.Program.{kept, line_at, line_then, read_by, read_line
 use Rattle.assembler.specs.declared.error.AsmError.{AsmError}
 use Rattle.assembler.specs.declared.error.AsmErrorKind.TheVariants as k
 use Rattle.text_laws.specs.Labels.{IsNameWithin, LabelsAreTexts, ProgramsAreShort}
+use Rattle.text_laws.proofs.Plain.{passed_plain, plain_byte, plain_utf8}
+use Rattle.text_laws.proofs.Tokens.{either}
 
 -- ---- names
 
 name_byte_plain : (b : ℕ) → is_name_byte b ≡ true → IsPlainByte b
-name_byte_plain b h =
-    (grind (arith, nat_tests, h), grind (arith, nat_tests, h), λ e. grind (arith, nat_tests, h, e), λ e. grind (arith, nat_tests, h, e))
+name_byte_plain b h = plain_byte b (grind (arith, nat_tests, h))
 
-first_byte_plain : (b : ℕ) → begins_name b ≡ true → IsPlainByte b
-first_byte_plain b h =
-    (grind (arith, nat_tests, h), grind (arith, nat_tests, h), λ e. grind (arith, nat_tests, h, e), λ e. grind (arith, nat_tests, h, e))
-
-bytes_plain : (bytes : List ℕ) → list_all is_name_byte bytes ≡ true → IsPlain bytes
-bytes_plain [] h = All-nil IsPlainByte
-bytes_plain (b ∷ bytes) h =
-    let both = and_parts (is_name_byte b) (list_all is_name_byte bytes) h in
-    All-cons IsPlainByte b bytes (name_byte_plain b both.0) (bytes_plain bytes both.1)
-
-name_plain : (name : List ℕ) → is_name name ≡ true → IsPlain name
-name_plain [] h = absurd cc
-name_plain (b ∷ bytes) h =
-    let both = and_parts (begins_name b) (list_all is_name_byte bytes) h in
-    All-cons IsPlainByte b bytes (first_byte_plain b both.0) (bytes_plain bytes both.1)
-
-plain_ascii : (text : List ℕ) → IsPlain text → IsAscii text
-plain_ascii text h i = elim (cases_lt i (length text)) [
-  | inl below ↦ let byte : IsPlainByte (slice_index text i) = All-get_or IsPlainByte text i 0 below h in omega (arith, byte.1)
-  | inr past ↦ omega (arith, get_or_past text i 0 past)
-]
+-- a name begins with a byte that others may have, too
+begins_as_name : (b : ℕ) → begins_name b ≡ true → is_name_byte b ≡ true
+begins_as_name b h = grind (arith, nat_tests, h)
 
 name_within : (most : ℕ) (name : List ℕ) → is_name name ≡ true → length name ≤ most → IsNameWithin most name
-name_within most name h le =
-    let plain = name_plain name h in (plain, (IsUtf8-from_ascii name (plain_ascii name plain), le))
+name_within most [] h le = absurd cc
+name_within most (b ∷ bytes) h le =
+    let both = and_parts (begins_name b) (list_all is_name_byte bytes) h in
+    let plain : IsPlain (b ∷ bytes) = All-cons IsPlainByte b bytes (name_byte_plain b (begins_as_name b both.0))
+    (passed_plain is_name_byte name_byte_plain bytes both.1) in
+    (plain, (plain_utf8 (b ∷ bytes) plain, le))
 
 -- ---- the parts of a text
 
 -- each has at most this many bytes
 abbrev AreWithin : ℕ → List (List ℕ) → Type 0
-AreWithin most [] = ⊤
-AreWithin most (part ∷ parts) = (length part ≤ most) × AreWithin most parts
+AreWithin most parts = AllByRecursion (λ part. length part ≤ most) parts
 
 wider : (few most : ℕ) (parts : List (List ℕ)) → few ≤ most → AreWithin few parts → AreWithin most parts
 wider few most [] le h = tt
@@ -69,36 +54,28 @@ onto_within : (most x : ℕ) (parts : List (List ℕ)) → AreWithin most parts 
 onto_within most x [] h = (omega arith, tt)
 onto_within most x (part ∷ parts) h = (omega (arith, h.0), wider most (suc most) parts (omega arith) h.1)
 
-within_if : (most : ℕ) (b : Bool) (x y : List (List ℕ)) → AreWithin most x → AreWithin most y → AreWithin most (cond b x y)
-within_if most true x y h i = h
-within_if most false x y h i = i
-
 split_within : (p : ℕ → Bool) (text : List ℕ) → AreWithin (length text) (slice_split p text)
 split_within p [] = (omega arith, tt)
 split_within p (x ∷ xs) =
     let rest = split_within p xs in
-    within_if (suc (length xs)) (p x) ([] ∷ slice_split p xs) (onto_first x (slice_split p xs))
+    either (AreWithin (suc (length xs))) (p x) ([] ∷ slice_split p xs) (onto_first x (slice_split p xs))
     (omega arith, wider (length xs) (suc (length xs)) (slice_split p xs) (omega arith) rest)
     (onto_within (length xs) x (slice_split p xs) rest)
 
-shorter_if : (most : ℕ) (b : Bool) (x y : List ℕ) → length x ≤ most → length y ≤ most → length (cond b x y) ≤ most
-shorter_if most true x y h i = h
-shorter_if most false x y h i = i
-
 strip_within : (most : ℕ) (line : List ℕ) → length line ≤ most → length (strip_carriage_return line) ≤ most
 strip_within most line le =
-    shorter_if most (slice_index line (length line - 1) == 13) (take (length line - 1) line) line
+    either (λ (l : List ℕ). length l ≤ most) (slice_index line (length line - 1) == 13) (take (length line - 1) line) line
     (omega (arith, length-take (length line - 1) line)) le
 
 lines_within : (most : ℕ) (parts : List (List ℕ)) → AreWithin most parts → AreWithin most (lines_of_parts parts)
 lines_within most [] h = tt
-lines_within most (part ∷ []) h = within_if most (length part == 0) [] (part ∷ []) tt h
+lines_within most (part ∷ []) h = either (AreWithin most) (length part == 0) [] (part ∷ []) tt h
 lines_within most (part ∷ next ∷ parts) h = (strip_within most part h.0, lines_within most (next ∷ parts) h.1)
 
 leading_within : (text : List ℕ) → length (without_leading_blanks text) ≤ length text
 leading_within [] = omega arith
 leading_within (b ∷ text) =
-    shorter_if (suc (length text)) (is_blank b) (without_leading_blanks text) (b ∷ text) (omega (arith, leading_within text)) (omega arith)
+    either (λ (l : List ℕ). length l ≤ suc (length text)) (is_blank b) (without_leading_blanks text) (b ∷ text) (omega (arith, leading_within text)) (omega arith)
 
 comment_within : (line : List ℕ) → length (without_comment line) ≤ length line
 comment_within line = by (position (λ b. b == 35) line) where
@@ -109,8 +86,7 @@ comment_within line = by (position (λ b. b == 35) line) where
 -- ---- labels
 
 abbrev AreNames : ℕ → List (List ℕ) → Type 0
-AreNames most [] = ⊤
-AreNames most (name ∷ names) = IsNameWithin most name × AreNames most names
+AreNames most names = AllByRecursion (IsNameWithin most) names
 
 label_within : (most : ℕ) (field : List ℕ) → length field ≤ most → IfSome (label_before field) (IsNameWithin most)
 label_within most field le = by (is_name (without_leading_blanks field)) refl where
@@ -153,15 +129,12 @@ abbrev Source : Type 0
 Source = TypeOf (source 0 (record { labels = []; statement = None }))
 
 abbrev HaveNames : ℕ → List Source → Type 0
-HaveNames most [] = ⊤
-HaveNames most (source ∷ others) = AreNames most source.line.labels × HaveNames most others
+HaveNames most program = AllByRecursion (λ source. AreNames most source.line.labels) program
 
 kept_within : (most number : ℕ) (line : Line) (others : List Source) → AreNames most line.labels → HaveNames most others
     → HaveNames most (kept number line others)
-kept_within most number line others h hs = by (says_nothing line) where
-  by : (b : Bool) → HaveNames most (cond b others (source number line ∷ others))
-  by true = hs
-  by false = (h, hs)
+kept_within most number line others h hs =
+    either (HaveNames most) (says_nothing line) others (source number line ∷ others) hs (h, hs)
 
 then_within : (most number : ℕ) (line : Result Line LineError) (others : Result (List Source) AsmError)
     → IfOk line (λ l. AreNames most l.labels) → IfOk others (HaveNames most) → IfOk (line_then number line others) (HaveNames most)

@@ -1,4 +1,6 @@
 pub mod Common
+-- plain texts
+pub mod Plain
 -- ---- requests
 -- the text that a string represents
 pub mod Strings
@@ -13,7 +15,6 @@ pub mod Labels
 -- ---- messages
 -- how many bytes a JSON value is written in
 pub mod Sizes
--- bytes in base64, the forms of values, and messages
+-- bytes in base64, and messages
 pub mod Encoded
-pub mod Fitting
 pub mod Lengths

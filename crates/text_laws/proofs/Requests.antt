@@ -1,5 +1,6 @@
 -- The texts of a request are in its body.
-use Rattle.text_laws.proofs.Common.{[], All, All-cons, All-nil, ap, arith, Bool, bytes_eq, cond, Data, Err, false, IfSome, IsTextWithin, item, Items, length, length-map, List, map, Members, no_items, None, Ok, ok_or, Option, option_and_then, option_map, refl, Result, Some, subst, suc, sym, true, unwrap_or, ℕ, ◌||◌, ◌∷◌, ◌≡◌, ◌≤◌}
+use Rattle.text_laws.proofs.Common.{[], All, All-cons, All-nil, ap, arith, bytes_eq, Data, Err, IfSome, IsTextWithin, item, Items, length, length-map, List, map, Members, no_items, None, Ok, ok_or, Option, option_and_then, option_map, refl, Result, Some, subst, suc, unwrap_or, ℕ, ⊤, ◌||◌, ◌∷◌, ◌≡◌, ◌≤◌}
+use Rattle.std.proofs.lemmas.Option.{IfSome_then}
 use Rattle.serde_json.specs.Find.{as_array, as_bool, as_object, as_str}
 use Rattle.protocol.specs.Arguments.{arguments_members, each, list, optional, required}
 use Rattle.protocol.specs.Commands.{command_of, execution_requests}
@@ -24,6 +25,7 @@ use Rattle.protocol.specs.declared.set_breakpoints.SourceBreakpoint.{SourceBreak
 use Rattle.protocol.specs.declared.set_breakpoints.TheConstants.{LINE, LINES, LOG_MESSAGE, SOURCE}
 use Rattle.protocol.proofs.Requests.{read_by_its_name}
 use Rattle.text_laws.specs.Requests.{AsksWithin, MeansWithin, RequestsHaveTexts, WritesWithin}
+use Rattle.text_laws.proofs.Tokens.{either}
 use Rattle.text_laws.proofs.Values.{AreItemsWithin, AreMembersWithin, IsWithin, as_array_within, as_object_within, as_str_within, count, json_within, map_holds, property_within, then_any, then_holds}
 
 -- ---- arguments
@@ -44,45 +46,34 @@ optional_within {A} most P meaning name members on h = by (property name members
   by None within = tt
   by (Some d) within = map_holds P (λ found. IfSome found P) (λ a. Some a) (meaning d) (λ a held. held) (on d within)
 
--- a list has an entry for each item
-each_entry : {A : Type 0} (meaning : Data → Option A) (ds : Items) → IfSome (each meaning ds) (λ found. length found ≡ count ds)
-each_entry meaning no_items = refl
-each_entry meaning (item d ds) =
-    then_any (λ found. length found ≡ suc (count ds)) (meaning d) _ (λ first.
-    then_holds (λ others. length others ≡ count ds) (λ found. length found ≡ suc (count ds)) (each meaning ds) _
-    (each_entry meaning ds) (λ others same. ap suc same))
+-- a list has an entry for each item, and what holds of what each item means holds of each entry
+each_within : {A : Type 0} (most : ℕ) (P : A → Type 0) (meaning : Data → Option A)
+    → ((d : Data) → IsWithin most d → IfSome (meaning d) P) → (ds : Items) → AreItemsWithin most ds
+    → IfSome (each meaning ds) (λ found. (length found ≡ count ds) × All P found)
+each_within most P meaning on no_items h = (refl, All-nil P)
+each_within most P meaning on (item d ds) h =
+    then_holds P _ (meaning d) _ (on d h.0) (λ first p.
+    then_holds _ _ (each meaning ds) _ (each_within most P meaning on ds h.1)
+    (λ others q. (ap suc q.0, All-cons P first others p q.1)))
 
-implied : {A : Type 0} (P Q : A → Type 0) (found : Option A) → ((a : A) → P a → Q a) → IfSome found P → IfSome found Q
-implied P Q None on h = tt
-implied P Q (Some a) on h = on a h
+-- at most this many entries, and each is so
+abbrev AreEntries : {A : Type 0} → ℕ → (A → Type 0) → List A → Type 0
+AreEntries most P found = (length found ≤ most) × All P found
+
+entries_within : {A : Type 0} (most : ℕ) (P : A → Type 0) (meaning : Data → Option A)
+    → ((d : Data) → IsWithin most d → IfSome (meaning d) P) → (d : Data) → IsWithin most d → IfSome (list meaning d) (AreEntries most P)
+entries_within most P meaning on d h =
+    then_holds (λ ds. (count ds ≤ most) × AreItemsWithin most ds) (AreEntries most P) (as_array d) (each meaning)
+    (as_array_within most d h) (λ ds held.
+    IfSome_then (each meaning ds) (each_within most P meaning on ds held.1) (λ found e. (omega (arith, e.0, held.0), e.1)))
 
 list_within : {A : Type 0} (most : ℕ) (meaning : Data → Option A) (d : Data) → IsWithin most d
     → IfSome (list meaning d) (λ found. length found ≤ most)
-list_within most meaning d h =
-    then_holds (λ ds. (count ds ≤ most) × AreItemsWithin most ds) (λ found. length found ≤ most) (as_array d) (each meaning)
-    (as_array_within most d h)
-    (λ ds held. implied (λ found. length found ≡ count ds) (λ found. length found ≤ most) (each meaning ds)
-    (λ found same. subst (λ n. n ≤ most) (sym same) held.0) (each_entry meaning ds))
-
--- and what holds of what each item means holds of each entry
-each_within : {A : Type 0} (most : ℕ) (P : A → Type 0) (meaning : Data → Option A)
-    → ((d : Data) → IsWithin most d → IfSome (meaning d) P) → (ds : Items) → AreItemsWithin most ds → IfSome (each meaning ds) (All P)
-each_within most P meaning on no_items h = All-nil P
-each_within most P meaning on (item d ds) h =
-    then_holds P (All P) (meaning d) _ (on d h.0) (λ first p.
-    then_holds (All P) (All P) (each meaning ds) _ (each_within most P meaning on ds h.1) (λ others q. All-cons P first others p q))
-
-both_hold : {A : Type 0} (P Q : A → Type 0) (found : Option A) → IfSome found P → IfSome found Q → IfSome found (λ a. P a × Q a)
-both_hold P Q None p q = tt
-both_hold P Q (Some a) p q = (p, q)
-
-entries_within : {A : Type 0} (most : ℕ) (P : A → Type 0) (meaning : Data → Option A)
-    → ((d : Data) → IsWithin most d → IfSome (meaning d) P) → (d : Data) → IsWithin most d
-    → IfSome (list meaning d) (λ found. (length found ≤ most) × All P found)
-entries_within most P meaning on d h =
-    both_hold (λ found. length found ≤ most) (All P) (list meaning d) (list_within most meaning d h)
-    (then_holds (λ ds. (count ds ≤ most) × AreItemsWithin most ds) (All P) (as_array d) (each meaning) (as_array_within most d h)
-    (λ ds held. each_within most P meaning on ds held.1))
+list_within {A} most meaning d h =
+    IfSome_then (list meaning d) (entries_within most (λ (a : A). ⊤) meaning (λ one _. any (meaning one)) d h) (λ found e. e.0) where
+      any : (found : Option A) → IfSome found (λ (a : A). ⊤)
+      any None = tt
+      any (Some a) = tt
 
 -- ---- requests
 
@@ -106,7 +97,7 @@ source_breakpoint_within most d h =
 
 -- at most this many breakpoints of a source, each of them writing such a text
 abbrev AreSourceWithin : ℕ → List SourceBreakpoint → Type 0
-AreSourceWithin most breakpoints = (length breakpoints ≤ most) × All (WritesWithin most) breakpoints
+AreSourceWithin most breakpoints = AreEntries most (WritesWithin most) breakpoints
 
 write_nothing : (most : ℕ) (lines : List ℕ) → All (WritesWithin most) (map at_line lines)
 write_nothing most [] = All-nil (WritesWithin most)
@@ -142,36 +133,37 @@ set_breakpoints_within most members h =
     then_holds (AreSourceWithin most) (λ a. AreSourceWithin most a.breakpoints) (asked members) _
     (asked_within most members h) (λ breakpoints held. held))
 
+-- breakpoints of another kind
+breakpoints_within : {A : Type 0} (most : ℕ) (meaning : Data → Option A) (members : Members) → AreMembersWithin most members
+    → IfSome (required (list meaning) (property BREAKPOINTS.now members)) (λ found. length found ≤ most)
+breakpoints_within most meaning members h =
+    required_within most (λ found. length found ≤ most) (list meaning) BREAKPOINTS.now members (list_within most meaning) h
+
 function_breakpoints_within : (most : ℕ) (members : Members) → AreMembersWithin most members
     → IfSome (set_function_breakpoints_arguments members) (λ a. length a.breakpoints ≤ most)
 function_breakpoints_within most members h =
-    then_holds (λ breakpoints. length breakpoints ≤ most) (λ a. length a.breakpoints ≤ most)
-    (required (list function_breakpoint) (property BREAKPOINTS.now members)) _
-    (required_within most (λ breakpoints. length breakpoints ≤ most) (list function_breakpoint) BREAKPOINTS.now members
-    (list_within most function_breakpoint) h)
-    (λ breakpoints few. few)
+    then_holds (λ breakpoints. length breakpoints ≤ most) (λ a. length a.breakpoints ≤ most) _ _
+    (breakpoints_within most function_breakpoint members h) (λ breakpoints few. few)
 
 instruction_breakpoints_within : (most : ℕ) (members : Members) → AreMembersWithin most members
     → IfSome (set_instruction_breakpoints_arguments members) (λ a. length a.breakpoints ≤ most)
 instruction_breakpoints_within most members h =
-    then_holds (λ breakpoints. length breakpoints ≤ most) (λ a. length a.breakpoints ≤ most)
-    (required (list instruction_breakpoint) (property BREAKPOINTS.now members)) _
-    (required_within most (λ breakpoints. length breakpoints ≤ most) (list instruction_breakpoint) BREAKPOINTS.now members
-    (list_within most instruction_breakpoint) h)
-    (λ breakpoints few. few)
+    then_holds (λ breakpoints. length breakpoints ≤ most) (λ a. length a.breakpoints ≤ most) _ _
+    (breakpoints_within most instruction_breakpoint members h) (λ breakpoints few. few)
 
 -- ---- commands
 
--- what holds of the arguments that a request finds in an object holds of those of its command
-of_members_within : {A : Type 0} (most : ℕ) (P : A → Type 0) (Q : Command → Type 0) (make : A → Command)
-    (arguments : Members → Option A) (found : Option Members) (command : Command) → IfSome found (AreMembersWithin most)
-    → ((members : Members) → AreMembersWithin most members → IfSome (arguments members) P) → ((a : A) → P a → Q (make a))
-    → ok_or (option_and_then (λ members. option_map make (arguments members)) found) BadArguments ≡ Ok command → Q command
-of_members_within most P Q make arguments None command h on made e = absurd cc
-of_members_within {A} most P Q make arguments (Some members) command h on made e = by (arguments members) (on members h) e where
-  by : (found : Option A) → IfSome found P → ok_or (option_map make found) BadArguments ≡ Ok command → Q command
+-- what the arguments ask that a request finds in an object, its command asks
+of_members_within : {A : Type 0} (most : ℕ) (make : A → Command) (arguments : Members → Option A) (found : Option Members)
+    (command : Command) → IfSome found (AreMembersWithin most)
+    → ((members : Members) → AreMembersWithin most members → IfSome (arguments members) (λ a. AsksWithin most (make a)))
+    → ok_or (option_and_then (λ members. option_map make (arguments members)) found) BadArguments ≡ Ok command → AsksWithin most command
+of_members_within most make arguments None command h on e = absurd cc
+of_members_within {A} most make arguments (Some members) command h on e = by (arguments members) (on members h) e where
+  by : (found : Option A) → IfSome found (λ a. AsksWithin most (make a)) → ok_or (option_map make found) BadArguments ≡ Ok command
+      → AsksWithin most command
   by None p e = absurd cc
-  by (Some a) p e = let same : make a ≡ command = cc in subst Q same (made a p)
+  by (Some a) p e = let same : make a ≡ command = cc in subst (AsksWithin most) same p
 
 arguments_within : (most : ℕ) (value : Option Data) → IfSome value (IsWithin most)
     → IfSome (arguments_members value) (AreMembersWithin most)
@@ -182,22 +174,18 @@ command_within : (most : ℕ) (name : List ℕ) (arguments : Option Data) (comma
     → command_of name arguments ≡ Ok command → AsksWithin most command
 unfolding execution_requests
 command_within most name arguments (Launch a) h e =
-    of_members_within most (λ b. IsTextWithin most b.program) (AsksWithin most) (λ b. Launch b) launch_arguments
-    (arguments_members arguments) (Launch a) (arguments_within most arguments h) (launch_within most) (λ b held. held)
-    (read_by_its_name name arguments (Launch a) e)
+    of_members_within most (λ b. Launch b) launch_arguments (arguments_members arguments) (Launch a)
+    (arguments_within most arguments h) (launch_within most) (read_by_its_name name arguments (Launch a) e)
 command_within most name arguments (SetBreakpoints a) h e =
-    of_members_within most (λ b. AreSourceWithin most b.breakpoints) (AsksWithin most) (λ b. SetBreakpoints b) set_breakpoints_arguments
-    (arguments_members arguments) (SetBreakpoints a) (arguments_within most arguments h) (set_breakpoints_within most) (λ b held. held)
-    (read_by_its_name name arguments (SetBreakpoints a) e)
+    of_members_within most (λ b. SetBreakpoints b) set_breakpoints_arguments (arguments_members arguments) (SetBreakpoints a)
+    (arguments_within most arguments h) (set_breakpoints_within most) (read_by_its_name name arguments (SetBreakpoints a) e)
 command_within most name arguments (SetFunctionBreakpoints a) h e =
-    of_members_within most (λ b. length b.breakpoints ≤ most) (AsksWithin most) (λ b. SetFunctionBreakpoints b)
-    set_function_breakpoints_arguments (arguments_members arguments) (SetFunctionBreakpoints a)
-    (arguments_within most arguments h) (function_breakpoints_within most) (λ b held. held)
+    of_members_within most (λ b. SetFunctionBreakpoints b) set_function_breakpoints_arguments (arguments_members arguments)
+    (SetFunctionBreakpoints a) (arguments_within most arguments h) (function_breakpoints_within most)
     (read_by_its_name name arguments (SetFunctionBreakpoints a) e)
 command_within most name arguments (SetInstructionBreakpoints a) h e =
-    of_members_within most (λ b. length b.breakpoints ≤ most) (AsksWithin most) (λ b. SetInstructionBreakpoints b)
-    set_instruction_breakpoints_arguments (arguments_members arguments) (SetInstructionBreakpoints a)
-    (arguments_within most arguments h) (instruction_breakpoints_within most) (λ b held. held)
+    of_members_within most (λ b. SetInstructionBreakpoints b) set_instruction_breakpoints_arguments (arguments_members arguments)
+    (SetInstructionBreakpoints a) (arguments_within most arguments h) (instruction_breakpoints_within most)
     (read_by_its_name name arguments (SetInstructionBreakpoints a) e)
 command_within most name arguments other h e = tt
 
@@ -212,11 +200,6 @@ next_any : {A : Type 0} (most : ℕ) (found : Option A) (fault : MessageError) (
     → ((a : A) → MeansWithin most (next a)) → MeansWithin most (ok_or found fault >>= next)
 next_any most None fault next on = tt
 next_any most (Some a) fault next on = on a
-
-if_within : (most : ℕ) (b : Bool) (x y : Result Incoming MessageError) → MeansWithin most x → MeansWithin most y
-    → MeansWithin most (cond b x y)
-if_within most true x y p q = p
-if_within most false x y p q = q
 
 received_within : (most seq : ℕ) (name : List ℕ) (found : Result Command Refusal) → IsTextWithin most name
     → ((command : Command) → found ≡ Ok command → AsksWithin most command) → MeansWithin most (Ok (received seq name found))
@@ -234,8 +217,8 @@ request_within most members h =
 typed_within : (most : ℕ) (kind : List ℕ) (members : Members) → AreMembersWithin most members
     → MeansWithin most (typed_message_of kind members)
 typed_within most kind members h =
-    if_within most (bytes_eq kind REQUEST.now) (request_of members) _ (request_within most members h)
-    (if_within most (bytes_eq kind RESPONSE.now || bytes_eq kind EVENT.now) (Ok Ignored) (Err NotAMessage) tt tt)
+    either (MeansWithin most) (bytes_eq kind REQUEST.now) (request_of members) _ (request_within most members h)
+    (either (MeansWithin most) (bytes_eq kind RESPONSE.now || bytes_eq kind EVENT.now) (Ok Ignored) (Err NotAMessage) tt tt)
 
 message_within : (most : ℕ) (members : Members) → AreMembersWithin most members → MeansWithin most (message_of members)
 message_within most members h =

@@ -11,17 +11,9 @@ use Rattle.message_parts.specs.Written.{HasSmallNumbers, ItemsHaveSmallNumbers, 
 
 -- ---- texts
 
-few : (letter control : Bool) (a b : List ℕ) (x : ℕ) → length a ≤ 6 → length b ≤ 6
-    → length (cond letter a (cond control b (x ∷ []))) ≤ 6
-few true control a b x h i = h
-few false true a b x h i = i
-few false false a b x h i = omega arith
-
 length-escape_byte : (x : ℕ) → length (escape_byte x) ≤ 6
 unfolding escape_byte
-length-escape_byte x =
-    few (nat_lt 0 (escape_letter x)) (nat_lt x 32) (92 ∷ escape_letter x ∷ [])
-    (92 ∷ 117 ∷ 48 ∷ 48 ∷ digit_char (x / 16) ∷ digit_char (x % 16) ∷ []) x (omega arith) (omega arith)
+length-escape_byte x = grind arith
 
 length-escape : (s : List ℕ) → length (escape s) ≤ 6 * length s
 length-escape [] = omega arith
@@ -82,27 +74,13 @@ mutual
   length-items_text : (later : Bool) (ds : Items) → ItemsHaveSmallNumbers ds → length (items_text later ds) ≤ 1 + items_size ds
   length-items_text later no_items h = omega arith
   length-items_text later (item d ds) h =
-      omega (
-        arith,
-        length-comma_if later,
-        length-compact_text d h.0,
-        length-items_text true ds h.1,
-        length-append (comma_if later) (compact_text d ++ items_text true ds),
-        length-append (compact_text d) (items_text true ds),
-      )
+      omega (arith, length-comma_if later, length-compact_text d h.0, length-items_text true ds h.1, length-append {A = ℕ})
 
   length-members_text : (later : Bool) (ms : Members) → MembersHaveSmallNumbers ms → length (members_text later ms) ≤ 1 + members_size ms
   length-members_text later no_members h = omega arith
   length-members_text later (member k d ms) h =
-      omega (
-        arith,
-        length-comma_if later,
-        length-compact_text d h.0,
-        length-members_text true ms h.1,
-        length-append (comma_if later) (quoted k ++ 58 ∷ (compact_text d ++ members_text true ms)),
-        length-append (quoted k) (58 ∷ (compact_text d ++ members_text true ms)),
-        length-append (compact_text d) (members_text true ms),
-      )
+      let rest : List ℕ = 58 ∷ (compact_text d ++ members_text true ms) in
+      omega (arith, length-comma_if later, length-compact_text d h.0, length-members_text true ms h.1, length-append {A = ℕ}, length-append (quoted k) rest)
 
 -- items, by what each has with its comma
 pub items_size-items_of : {A : Type 0} (value : A → Data) (most : A → ℕ) → ((x : A) → 1 + size (value x) ≤ most x) → (xs : List A)

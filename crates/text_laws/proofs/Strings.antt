@@ -1,6 +1,7 @@
 -- The text that a JSON string represents is UTF-8, and has no more bytes than the string.
 use Rattle.text_laws.proofs.Common.{[], and_parts, append-nil, append_assoc, arith, Bool, cond, drop_at, eqb-true, false, get_or, get_or_at, IsUtf8, leb-true, length, length-append, List, ltb-true, nat_le, nat_lt, nat_tests, None, Option, option_and_then, refl, Some, subst, sym, take_at, true, ℕ, ⊤, ◌&&◌, ◌++◌, ◌+◌, ◌<◌, ◌==◌, ◌∷◌, ◌≡◌, ◌≤◌}
 use Rattle.std.proofs.lemmas.Str.{IsCharBoundary-after_ascii, IsCharBoundary-before_ascii, IsUtf8-append, IsUtf8-drop, IsUtf8-encode, IsUtf8-take, encode_ascii}
+use Rattle.std.proofs.lemmas.Bool.{cond_both}
 use Rattle.std.specs.Char.{digit_value, encode_utf8, is_digit}
 use lib.Utf8.{low_scalar, scalar}
 use Rattle.json.specs.Text.{Within, after_backslash, after_high, after_u, code_unit, content, is_high_surrogate, is_low_surrogate, plain, prepend, short_escape, surrogate_pair}
@@ -91,11 +92,6 @@ Stands after_backslash before rest = IsUtf8 before × IsUtf8 rest
 Stands after_u before rest = IsUtf8 before × IsUtf8 rest
 Stands (after_high h) before rest = IsUtf8 before × IsUtf8 rest × (is_high_surrogate h ≡ true)
 
-either : (before : List ℕ) (most : ℕ) (b : Bool) (x y : Option (List ℕ)) → (b ≡ true → Continues before most x)
-    → (b ≡ false → Continues before most y) → Continues before most (cond b x y)
-either before most true x y f g = f refl
-either before most false x y f g = g refl
-
 then : (before : List ℕ) (most : ℕ) (f : ℕ → Option (List ℕ)) (found : Option ℕ)
     → ((u : ℕ) → found ≡ Some u → Continues before most (f u)) → Continues before most (option_and_then f found)
 then before most f None h = tt
@@ -146,20 +142,20 @@ unfolding content
 content_text plain before [] h = tt
 content_text plain before (x ∷ xs) h =
     let n = length (x ∷ xs) in
-    either before n (x == 34) _ _
+    cond_both (x == 34) _ _ (Continues before n)
     (λ quote. let small : x < 128 = omega (arith, eqb-true x 34 quote) in
     (subst IsUtf8 (sym (append-nil before)) (text_before before xs x small h), omega arith))
-    (λ other. either before n (x == 92) _ _
+    (λ other. cond_both (x == 92) _ _ (Continues before n)
     (λ backslash. let small : x < 128 = omega (arith, eqb-true x 92 backslash) in
     more before (length xs) n _ (omega arith)
     (content_text after_backslash before xs (text_before before xs x small h, text_after before xs x small h)))
-    (λ byte. either before n (nat_lt x 32) _ _ (λ control. tt) (λ printed.
+    (λ byte. cond_both (nat_lt x 32) _ _ (Continues before n) (λ control. tt) (λ printed.
     longer before (x ∷ []) (length xs) n _ (omega arith)
     (content_text plain (before ++ x ∷ []) xs (subst IsUtf8 (sym (append_assoc before (x ∷ []) xs)) h)))))
 content_text after_backslash before [] h = tt
 content_text after_backslash before (x ∷ xs) h =
     let n = length (x ∷ xs) in
-    either before n (x == 117) _ _
+    cond_both (x == 117) _ _ (Continues before n)
     (λ unit. let small : x < 128 = omega (arith, eqb-true x 117 unit) in
     more before (length xs) n _ (omega arith) (content_text after_u before xs (h.0, text_after [] xs x small h.1)))
     (λ other. then before n _ (short_escape x) (λ c found.
@@ -173,28 +169,22 @@ content_text after_u before (a ∷ b ∷ c ∷ d ∷ xs) h =
     then before n _ (code_unit a b c d) (λ u found.
     let digits = four_digits a b c d u found in
     let rest = after_four a b c d xs digits h.1 in
-    either before n (is_high_surrogate u) _ _
+    cond_both (is_high_surrogate u) _ _ (Continues before n)
     (λ high. more before (length xs) n _ (omega arith) (content_text (after_high u) before xs (h.0, rest, high)))
-    (λ not_high. either before n (is_low_surrogate u) _ _ (λ low. tt) (λ not_low.
+    (λ not_high. cond_both (is_low_surrogate u) _ _ (Continues before n) (λ low. tt) (λ not_low.
     character before xs u n (no_surrogate u digits.unit not_high not_low) h.0 rest (omega (arith, length-encode u))
     (content_text plain (before ++ encode_utf8 u) xs))))
-content_text (after_high high) before [] h = tt
-content_text (after_high high) before (s ∷ []) h = tt
-content_text (after_high high) before (s ∷ u ∷ []) h = tt
-content_text (after_high high) before (s ∷ u ∷ a ∷ []) h = tt
-content_text (after_high high) before (s ∷ u ∷ a ∷ b ∷ []) h = tt
-content_text (after_high high) before (s ∷ u ∷ a ∷ b ∷ c ∷ []) h = tt
 content_text (after_high high) before (s ∷ u ∷ a ∷ b ∷ c ∷ d ∷ xs) h =
     let n = length (s ∷ u ∷ a ∷ b ∷ c ∷ d ∷ xs) in
-    either before n ((s == 92) && (u == 117)) _ _
+    cond_both ((s == 92) && (u == 117)) _ _ (Continues before n)
     (λ escape. let marks = and_parts (s == 92) (u == 117) escape in
     let first : s < 128 = omega (arith, eqb-true s 92 marks.0) in
     let second : u < 128 = omega (arith, eqb-true u 117 marks.1) in
     let unit = text_after [] (a ∷ b ∷ c ∷ d ∷ xs) u second (text_after [] (u ∷ a ∷ b ∷ c ∷ d ∷ xs) s first h.1) in
     then before n _ (code_unit a b c d) (λ l found.
     let rest = after_four a b c d xs (four_digits a b c d l found) unit in
-    either before n (is_low_surrogate l) _ _
+    cond_both (is_low_surrogate l) _ _ (Continues before n)
     (λ low. character before xs (surrogate_pair high l) n (of_surrogates high l h.2 low) h.0 rest
     (omega (arith, length-encode (surrogate_pair high l))) (content_text plain (before ++ encode_utf8 (surrogate_pair high l)) xs))
     (λ not_low. tt))) (λ other. tt)
-content_text after_u before _ h = tt
+content_text _ before _ h = tt

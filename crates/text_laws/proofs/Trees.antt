@@ -55,23 +55,15 @@ none ms = 0
 
 after_end : (most : ℕ) (ts : List Token) → HaveTexts most ts
     → IfSome (after_end_array ts) (λ rest. HaveTexts most rest × (length rest < length ts))
+after_end most [] h = tt
 after_end most (Token.end_array ∷ ts) h = (h.1, omega arith)
-after_end most (Token.key s ∷ ts) h = tt
-after_end most (Token.string s ∷ ts) h = tt
-after_end most (Token.number s ∷ ts) h = tt
-after_end most (Token.boolean b ∷ ts) h = tt
-after_end most (Token.null ∷ ts) h = tt
-after_end most (Token.bad ∷ ts) h = tt
-after_end most _ h = tt
+after_end most (_ ∷ ts) h = tt
 
 after_key : (most : ℕ) (ts : List Token) → HaveTexts most ts → IfSome (read_key ts) (λ p. HaveTexts most p.1 × (length p.1 < length ts))
 after_key most [] h = tt
-after_key most (Token.begin_object ∷ ts) h = tt
 after_key most (Token.end_object ∷ ts) h = (h.1, omega arith)
-after_key most (Token.begin_array ∷ ts) h = tt
-after_key most (Token.end_array ∷ ts) h = tt
 after_key most (Token.key s ∷ ts) h = (h.1, omega arith)
-after_key most _ h = tt
+after_key most (_ ∷ ts) h = tt
 
 -- a value, and then more
 and_more : {B : Type 0} (Q : B → Type 0) (size : B → ℕ) (most n : ℕ) (join : json.Json → B → B)
@@ -124,10 +116,10 @@ one_level most a o items members [] h le = tt
 one_level most a o items members (Token.begin_object ∷ ts) h le =
     mapped (AreMembersWithin most) (IsWithin most) none one most (length ts) (suc (length ts)) json.object (λ ms held _. held)
     (λ ms. omega arith) (o ts) (members ts h.1 (omega arith))
-one_level most a o items members (Token.end_object ∷ ts) h le = tt
 one_level most a o items members (Token.begin_array ∷ ts) h le =
     mapped (AreItemsWithin most) (IsWithin most) count one most (length ts) (suc (length ts)) json.array
     (λ js held few. (omega arith, held)) (λ js. omega arith) (a ts) (items ts h.1 (omega arith))
+one_level most a o items members (Token.end_object ∷ ts) h le = tt
 one_level most a o items members (Token.end_array ∷ ts) h le = tt
 one_level most a o items members (Token.key s ∷ ts) h le = tt
 one_level most a o items members (Token.string s ∷ ts) h le = (h.0, h.1, omega arith)

@@ -36,7 +36,7 @@ abbrev mutual
 
 -- ---- reading
 
-by_order : (P : Members → Type 0) (o : Ordering) (x y z : Members) → P x → P y → P z → P (match_ordering o x y z)
+by_order : {A : Type 0} (P : A → Type 0) (o : Ordering) (x y z : A) → P x → P y → P z → P (match_ordering o x y z)
 by_order P Less x y z h i j = h
 by_order P Equal x y z h i j = i
 by_order P Greater x y z h i j = j
@@ -116,25 +116,15 @@ json_within body = by (json_of body) refl where
 
 -- ---- finding
 
-member_by_order : (most : ℕ) (o : Ordering) (x y z : Option Data) → IfSome x (IsWithin most) → IfSome y (IsWithin most)
-    → IfSome z (IsWithin most) → IfSome (match_ordering o x y z) (IsWithin most)
-member_by_order most Less x y z h i j = h
-member_by_order most Equal x y z h i j = i
-member_by_order most Greater x y z h i j = j
-
 get_within : (most : ℕ) (k : List ℕ) (ms : Members) → AreMembersWithin most ms → IfSome (get_member k ms) (IsWithin most)
 get_within most k no_members h = tt
 get_within most k (member l e ms) h =
-    member_by_order most (slice_cmp nat_cmp k l) (get_member k ms) (Some e) (get_member k ms) (get_within most k ms h.1) h.0
-    (get_within most k ms h.1)
+    by_order (λ (found : Option Data). IfSome found (IsWithin most)) (slice_cmp nat_cmp k l) (get_member k ms) (Some e)
+    (get_member k ms) (get_within most k ms h.1) h.0 (get_within most k ms h.1)
 
 non_null_within : (most : ℕ) (d : Data) → IsWithin most d → IfSome (non_null d) (IsWithin most)
 non_null_within most null h = tt
-non_null_within most (boolean b) h = h
-non_null_within most (number n) h = h
-non_null_within most (string s) h = h
-non_null_within most (array ds) h = h
-non_null_within most (object ms) h = h
+non_null_within most _ h = h
 
 pub property_within : (most : ℕ) (name : List ℕ) (ms : Members) → AreMembersWithin most ms
     → IfSome (property name ms) (IsWithin most)
@@ -143,27 +133,15 @@ property_within most name ms h =
 
 -- a text
 pub as_str_within : (most : ℕ) (d : Data) → IsWithin most d → IfSome (as_str d) (IsTextWithin most)
-as_str_within most null h = tt
-as_str_within most (boolean b) h = tt
-as_str_within most (number n) h = tt
 as_str_within most (string s) h = h
-as_str_within most (array ds) h = tt
-as_str_within most (object ms) h = tt
+as_str_within most _ h = tt
 
 pub as_object_within : (most : ℕ) (d : Data) → IsWithin most d → IfSome (as_object d) (AreMembersWithin most)
-as_object_within most null h = tt
-as_object_within most (boolean b) h = tt
-as_object_within most (number n) h = tt
-as_object_within most (string s) h = tt
-as_object_within most (array ds) h = tt
 as_object_within most (object ms) h = h
+as_object_within most _ h = tt
 
 -- a list
 pub as_array_within : (most : ℕ) (d : Data) → IsWithin most d
     → IfSome (as_array d) (λ ds. (count ds ≤ most) × AreItemsWithin most ds)
-as_array_within most null h = tt
-as_array_within most (boolean b) h = tt
-as_array_within most (number n) h = tt
-as_array_within most (string s) h = tt
 as_array_within most (array ds) h = h
-as_array_within most (object ms) h = tt
+as_array_within most _ h = tt

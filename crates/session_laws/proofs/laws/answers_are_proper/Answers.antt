@@ -1,5 +1,2 @@
-use Rattle.session_laws.proofs.Proper.{answers_are_proper as proved}
-use Rattle.session_laws.proofs.laws.answers_are_proper.Goals as goal
-
-pub returns : goal.returns
-returns c = proved
+pub returns : Rattle.session_laws.proofs.laws.answers_are_proper.Goals.returns
+returns c = Rattle.session_laws.proofs.Proper.answers_are_proper

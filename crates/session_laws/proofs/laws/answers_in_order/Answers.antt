@@ -1,5 +1,2 @@
-use Rattle.session_laws.proofs.Order.{answers_in_order as proved}
-use Rattle.session_laws.proofs.laws.answers_in_order.Goals as goal
-
-pub returns : goal.returns
-returns c = proved
+pub returns : Rattle.session_laws.proofs.laws.answers_in_order.Goals.returns
+returns c = Rattle.session_laws.proofs.Waiting.answers_in_order

@@ -1,5 +1,2 @@
-use Rattle.session_laws.proofs.Once.{initializes_once as proved}
-use Rattle.session_laws.proofs.laws.initializes_once.Goals as goal
-
-pub returns : goal.returns
-returns c = proved
+pub returns : Rattle.session_laws.proofs.laws.initializes_once.Goals.returns
+returns c = Rattle.session_laws.proofs.Proper.initializes_once

@@ -1,8 +1,5 @@
-use Rattle.session_laws.proofs.Paused.{marked_retires_none, pause_marks}
-use Rattle.session_laws.proofs.laws.marked_retires_none.Goals as goal
+pub returns-clause-marked : Rattle.session_laws.proofs.laws.marked_retires_none.Goals.returns-clause-marked
+returns-clause-marked c = Rattle.session_laws.proofs.Paused.marked_retires_none
 
-pub returns-clause-marked : goal.returns-clause-marked
-returns-clause-marked c = marked_retires_none
-
-pub returns-clause-pause : goal.returns-clause-pause
-returns-clause-pause c = pause_marks
+pub returns-clause-pause : Rattle.session_laws.proofs.laws.marked_retires_none.Goals.returns-clause-pause
+returns-clause-pause c = Rattle.session_laws.proofs.Paused.pause_marks

@@ -1,5 +1,2 @@
-use Rattle.session_laws.proofs.Order.{numbers_rise as proved}
-use Rattle.session_laws.proofs.laws.numbers_rise.Goals as goal
-
-pub returns : goal.returns
-returns c = proved
+pub returns : Rattle.session_laws.proofs.laws.numbers_rise.Goals.returns
+returns c = Rattle.session_laws.proofs.Waiting.numbers_rise

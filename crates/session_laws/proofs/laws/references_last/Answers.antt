@@ -1,5 +1,2 @@
-use Rattle.session_laws.proofs.Lasting.{references_last as proved}
-use Rattle.session_laws.proofs.laws.references_last.Goals as goal
-
-pub returns : goal.returns
-returns c = proved
+pub returns : Rattle.session_laws.proofs.laws.references_last.Goals.returns
+returns c = Rattle.session_laws.proofs.Lasting.references_last

@@ -1,5 +1,2 @@
-use Rattle.session_laws.proofs.Issuing.{references_rise as proved}
-use Rattle.session_laws.proofs.laws.references_rise.Goals as goal
-
-pub returns : goal.returns
-returns c = proved
+pub returns : Rattle.session_laws.proofs.laws.references_rise.Goals.returns
+returns c = Rattle.session_laws.proofs.Issuing.references_rise

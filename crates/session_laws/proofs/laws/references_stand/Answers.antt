@@ -1,5 +1,2 @@
-use Rattle.session_laws.proofs.Issuing.{references_stand as proved}
-use Rattle.session_laws.proofs.laws.references_stand.Goals as goal
-
-pub returns : goal.returns
-returns c = proved
+pub returns : Rattle.session_laws.proofs.laws.references_stand.Goals.returns
+returns c = Rattle.session_laws.proofs.Issuing.references_stand

@@ -1,5 +1,2 @@
-use Rattle.session_laws.proofs.Runs.{runs_are_told as proved}
-use Rattle.session_laws.proofs.laws.runs_are_told.Goals as goal
-
-pub returns : goal.returns
-returns c = proved
+pub returns : Rattle.session_laws.proofs.laws.runs_are_told.Goals.returns
+returns c = Rattle.session_laws.proofs.Proper.runs_are_told

@@ -1,5 +1,2 @@
-use Rattle.session_laws.proofs.Joined.{slices_join as proved}
-use Rattle.session_laws.proofs.laws.slices_join.Goals as goal
-
-pub returns : goal.returns
-returns c = proved
+pub returns : Rattle.session_laws.proofs.laws.slices_join.Goals.returns
+returns c = Rattle.session_laws.proofs.Joined.slices_join
