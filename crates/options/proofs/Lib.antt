@@ -1,3 +1,5 @@
+-- a command that is told of another
+mod Adding
 -- what a text asks for
 mod Asking
 -- what holds of options, whatever the words

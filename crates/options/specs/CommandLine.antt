@@ -48,11 +48,8 @@ plain = record (new_app (codes "rvdap")) {
 
 -- its options
 abbrev pub with_options : App
-with_options = with_rule (with_rule (with_rule (with_rule (with_rule plain (option (codes "memory"))) (option (codes "listen"))) (option (codes "program"))) (flag (codes "once")))
-    (flag (codes "verbose"))
-
-abbrev pub with_all_options : App
-with_all_options = with_rule with_options (option (codes "record"))
+with_options = with_rule (with_rule (with_rule (with_rule (with_rule (with_rule plain (option (codes "memory"))) (option (codes "listen"))) (option (codes "program"))) (flag (codes "once")))
+    (flag (codes "verbose"))) (option (codes "record"))
 
 -- the commands
 abbrev pub run_of_a_machine : App
@@ -80,11 +77,27 @@ replay_of_a_part = with_rule (with_rule (with_rule (new_app (codes "replay")) (o
 abbrev pub replay : App
 replay = with_rule replay_of_a_part (file (codes "SCRIPT"))
 
--- the whole
+-- the whole, command by command
+abbrev pub with_asm : App
+with_asm = with_subcommand with_options (with_file (codes "asm") (codes "FILE")).top
+
+abbrev pub with_watch : App
+with_watch = with_subcommand with_asm watch.top
+
+abbrev pub with_run : App
+with_run = with_subcommand with_watch run.top
+
+abbrev pub with_check : App
+with_check = with_subcommand with_run check.top
+
+abbrev pub with_labels : App
+with_labels = with_subcommand with_check labels.top
+
+abbrev pub with_convert : App
+with_convert = with_subcommand with_labels (with_file (codes "convert") (codes "FILE")).top
+
 unfoldable pub command_line : App
-command_line = with_subcommand (with_subcommand (with_subcommand (with_subcommand (with_subcommand (with_subcommand (with_subcommand
-    with_all_options (with_file (codes "asm") (codes "FILE")).top) watch.top) run.top) check.top) labels.top)
-    (with_file (codes "convert") (codes "FILE")).top) replay.top
+command_line = with_subcommand with_convert replay.top
 
 -- clap's definitions say exactly what it makes of words
 pub is_exact : is_simple_and_free command_line ≡ true

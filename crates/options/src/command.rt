@@ -1,6 +1,6 @@
 //! The command line as clap is told of it, with what help says.
 ghost use Rattle.std.specs.Prelude.{◌≡◌, IfOk, codes, false};
-ghost use Rattle.clap.specs.Words.{app_of, rule_of};
+ghost use Rattle.clap.specs.Words.{app_of, new_app, rule_of};
 ghost use Rattle.clap.specs.declared.builder.command.Command.TheViews.{out-Command as fields_of};
 ghost use Rattle.options.specs.CommandLine as spec;
 
@@ -149,9 +149,66 @@ const AFTER_HELP_OF_CONVERT: &str = "\
     \n\
     \nStatus: 0, or 1 where something cannot be said, or FILE cannot be read.";
 
-/// The command line as clap is told of it.
+/// The command line as clap is told of it. A command is made before the one that it is added to, and each in a function of its own: what is
+/// alive where memory may run out has to be dropped there.
 pub(crate) fn command<'a>(alloc: Global) -> Result<Command<'a>, AllocError>
     ensures { IfOk result (λ c. app_of c ≡ spec.command_line) }
+{
+    let replay = replay(alloc)?;
+    with_convert(alloc)?.subcommand(replay)
+}
+
+// Told of its commands up to `convert`.
+fn with_convert<'a>(alloc: Global) -> Result<Command<'a>, AllocError>
+    ensures { IfOk result (λ c. app_of c ≡ spec.with_convert) }
+{
+    let convert = convert(alloc)?;
+    with_labels(alloc)?.subcommand(convert)
+}
+
+// Told of its commands up to `labels`.
+fn with_labels<'a>(alloc: Global) -> Result<Command<'a>, AllocError>
+    ensures { IfOk result (λ c. app_of c ≡ spec.with_labels) }
+{
+    let labels = labels(alloc)?;
+    with_check(alloc)?.subcommand(labels)
+}
+
+// Told of its commands up to `check`.
+fn with_check<'a>(alloc: Global) -> Result<Command<'a>, AllocError>
+    ensures { IfOk result (λ c. app_of c ≡ spec.with_check) }
+{
+    let check = check(alloc)?;
+    with_run(alloc)?.subcommand(check)
+}
+
+// Told of its commands up to `run`.
+fn with_run<'a>(alloc: Global) -> Result<Command<'a>, AllocError>
+    ensures { IfOk result (λ c. app_of c ≡ spec.with_run) }
+{
+    let run = run(alloc)?;
+    with_watch(alloc)?.subcommand(run)
+}
+
+// Told of its commands up to `watch`.
+fn with_watch<'a>(alloc: Global) -> Result<Command<'a>, AllocError>
+    ensures { IfOk result (λ c. app_of c ≡ spec.with_watch) }
+{
+    let watch = watch(alloc)?;
+    with_asm(alloc)?.subcommand(watch)
+}
+
+// Told of its first command.
+fn with_asm<'a>(alloc: Global) -> Result<Command<'a>, AllocError>
+    ensures { IfOk result (λ c. app_of c ≡ spec.with_asm) }
+{
+    let asm = asm(alloc)?;
+    with_options(alloc)?.subcommand(asm)
+}
+
+// Told of its options.
+fn with_options<'a>(alloc: Global) -> Result<Command<'a>, AllocError>
+    ensures { IfOk result (λ c. app_of c ≡ spec.with_options) }
 {
     plain(alloc)
         .arg(memory(alloc))?
@@ -159,14 +216,7 @@ pub(crate) fn command<'a>(alloc: Global) -> Result<Command<'a>, AllocError>
         .arg(program(alloc))?
         .arg(once(alloc))?
         .arg(verbose(alloc))?
-        .arg(record(alloc))?
-        .subcommand(asm(alloc)?)?
-        .subcommand(watch(alloc)?)?
-        .subcommand(run(alloc)?)?
-        .subcommand(check(alloc)?)?
-        .subcommand(labels(alloc)?)?
-        .subcommand(convert(alloc)?)?
-        .subcommand(replay(alloc)?)
+        .arg(record(alloc))
 }
 
 // The command, before it is told of options.
@@ -193,6 +243,23 @@ fn plain<'a>(alloc: Global) -> Command<'a>
         .after_help(AFTER_HELP)
         .no_binary_name(true)
         .disable_help_subcommand(true)
+}
+
+// A command of this name, with what help says of it.
+fn described<'a>(
+    alloc: Global,
+    name: &'a str,
+    about: &'a str,
+    usage: &'a str,
+    after_help: &'a str,
+) -> Command<'a>
+    ensures app { app_of result ≡ new_app name.entry.now }
+    ensures local { (fields_of result).has_globals ≡ false }
+{
+    Command::new(alloc, name)
+        .about(about)
+        .override_usage(usage)
+        .after_help(after_help)
 }
 
 fn memory<'a>(alloc: Global) -> Arg<'a>
@@ -269,39 +336,45 @@ fn asm<'a>(alloc: Global) -> Result<Command<'a>, AllocError>
     ensures { IfOk result (λ c. (app_of c ≡ spec.with_file (codes "asm") (codes "FILE"))
         × ((fields_of c).has_globals ≡ false)) }
 {
-    Command::new(alloc, "asm")
-        .about("Assembles FILE and lists its instructions")
-        .override_usage("rvdap asm <FILE>")
-        .after_help(AFTER_HELP_OF_ASM)
-        .arg(file(
-            alloc,
-            "FILE",
-            "A text of assembly, of at most 1,048,576 bytes",
-        ))
+    described(
+        alloc,
+        "asm",
+        "Assembles FILE and lists its instructions",
+        "rvdap asm <FILE>",
+        AFTER_HELP_OF_ASM,
+    )
+    .arg(file(
+        alloc,
+        "FILE",
+        "A text of assembly, of at most 1,048,576 bytes",
+    ))
 }
 
 fn watch<'a>(alloc: Global) -> Result<Command<'a>, AllocError>
     ensures { IfOk result (λ c. (app_of c ≡ spec.watch) × ((fields_of c).has_globals ≡ false)) }
 {
-    Command::new(alloc, "watch")
-        .about("Plays SCRIPT and prints what an editor knows then")
-        .override_usage("rvdap watch <SCRIPT> [<C> [<N>]]")
-        .after_help(AFTER_HELP_OF_WATCH)
-        .arg(file(
-            alloc,
-            "SCRIPT",
-            "Events of a session, line by line, and what is watched",
-        ))?
-        .arg(word(
-            alloc,
-            "C",
-            "The connection that is watched, whatever SCRIPT says",
-        ))?
-        .arg(word(
-            alloc,
-            "N",
-            "How many bytes for it are watched; all if not given",
-        ))
+    described(
+        alloc,
+        "watch",
+        "Plays SCRIPT and prints what an editor knows then",
+        "rvdap watch <SCRIPT> [<C> [<N>]]",
+        AFTER_HELP_OF_WATCH,
+    )
+    .arg(file(
+        alloc,
+        "SCRIPT",
+        "Events of a session, line by line, and what is watched",
+    ))?
+    .arg(word(
+        alloc,
+        "C",
+        "The connection that is watched, whatever SCRIPT says",
+    ))?
+    .arg(word(
+        alloc,
+        "N",
+        "How many bytes for it are watched; all if not given",
+    ))
 }
 
 fn replay<'a>(alloc: Global) -> Result<Command<'a>, AllocError>
@@ -315,13 +388,16 @@ fn replay_of_a_part<'a>(alloc: Global) -> Result<Command<'a>, AllocError>
     ensures { IfOk result (λ c. (app_of c ≡ spec.replay_of_a_part)
         × ((fields_of c).has_globals ≡ false)) }
 {
-    Command::new(alloc, "replay")
-        .about("Plays SCRIPT and prints the conversation")
-        .override_usage("rvdap replay [--from <N>] [--to <N>] [--facts] <SCRIPT>")
-        .after_help(AFTER_HELP_OF_REPLAY)
-        .arg(from(alloc))?
-        .arg(to(alloc))?
-        .arg(facts(alloc))
+    described(
+        alloc,
+        "replay",
+        "Plays SCRIPT and prints the conversation",
+        "rvdap replay [--from <N>] [--to <N>] [--facts] <SCRIPT>",
+        AFTER_HELP_OF_REPLAY,
+    )
+    .arg(from(alloc))?
+    .arg(to(alloc))?
+    .arg(facts(alloc))
 }
 
 fn from<'a>(alloc: Global) -> Arg<'a>
@@ -387,16 +463,17 @@ fn run_of_a_machine<'a>(alloc: Global) -> Result<Command<'a>, AllocError>
     ensures { IfOk result (λ c. (app_of c ≡ spec.run_of_a_machine)
         × ((fields_of c).has_globals ≡ false)) }
 {
-    Command::new(alloc, "run")
-        .about("Runs the program in FILE")
-        .override_usage(
-            "rvdap run [--memory <KIB>] [--limit <N>] [--output-limit <BYTES>]\n          \
-             [--count] [--registers] [--trace <N>] <FILE>..",
-        )
-        .after_help(AFTER_HELP_OF_RUN)
-        .arg(memory(alloc))?
-        .arg(limit(alloc))?
-        .arg(output_limit(alloc))
+    described(
+        alloc,
+        "run",
+        "Runs the program in FILE",
+        "rvdap run [--memory <KIB>] [--limit <N>] [--output-limit <BYTES>]\n          \
+         [--count] [--registers] [--trace <N>] <FILE>..",
+        AFTER_HELP_OF_RUN,
+    )
+    .arg(memory(alloc))?
+    .arg(limit(alloc))?
+    .arg(output_limit(alloc))
 }
 
 fn limit<'a>(alloc: Global) -> Arg<'a>
@@ -453,42 +530,51 @@ fn count<'a>(alloc: Global) -> Arg<'a>
 fn check<'a>(alloc: Global) -> Result<Command<'a>, AllocError>
     ensures { IfOk result (λ c. (app_of c ≡ spec.check) × ((fields_of c).has_globals ≡ false)) }
 {
-    Command::new(alloc, "check")
-        .about("Tells the errors of each FILE, and what to write instead")
-        .override_usage("rvdap check [--json] <FILE>..")
-        .after_help(AFTER_HELP_OF_CHECK)
-        .arg(json(alloc))?
-        .arg(files(alloc, "Texts of assembly, each of at most 1,048,576 bytes"))
+    described(
+        alloc,
+        "check",
+        "Tells the errors of each FILE, and what to write instead",
+        "rvdap check [--json] <FILE>..",
+        AFTER_HELP_OF_CHECK,
+    )
+    .arg(json(alloc))?
+    .arg(files(alloc, "Texts of assembly, each of at most 1,048,576 bytes"))
 }
 
 fn labels<'a>(alloc: Global) -> Result<Command<'a>, AllocError>
     ensures { IfOk result (λ c. (app_of c ≡ spec.labels) × ((fields_of c).has_globals ≡ false)) }
 {
-    Command::new(alloc, "labels")
-        .about("Tells the labels of FILE")
-        .override_usage("rvdap labels [--json] <FILE>")
-        .after_help(AFTER_HELP_OF_LABELS)
-        .arg(json(alloc))?
-        .arg(file(
-            alloc,
-            "FILE",
-            "A text of assembly, of at most 1,048,576 bytes",
-        ))
+    described(
+        alloc,
+        "labels",
+        "Tells the labels of FILE",
+        "rvdap labels [--json] <FILE>",
+        AFTER_HELP_OF_LABELS,
+    )
+    .arg(json(alloc))?
+    .arg(file(
+        alloc,
+        "FILE",
+        "A text of assembly, of at most 1,048,576 bytes",
+    ))
 }
 
 fn convert<'a>(alloc: Global) -> Result<Command<'a>, AllocError>
     ensures { IfOk result (λ c. (app_of c ≡ spec.with_file (codes "convert") (codes "FILE"))
         × ((fields_of c).has_globals ≡ false)) }
 {
-    Command::new(alloc, "convert")
-        .about("Writes the program in FILE as this assembler takes it")
-        .override_usage("rvdap convert <FILE>")
-        .after_help(AFTER_HELP_OF_CONVERT)
-        .arg(file(
-            alloc,
-            "FILE",
-            "A text of assembly, of at most 1,048,576 bytes",
-        ))
+    described(
+        alloc,
+        "convert",
+        "Writes the program in FILE as this assembler takes it",
+        "rvdap convert <FILE>",
+        AFTER_HELP_OF_CONVERT,
+    )
+    .arg(file(
+        alloc,
+        "FILE",
+        "A text of assembly, of at most 1,048,576 bytes",
+    ))
 }
 
 fn json<'a>(alloc: Global) -> Arg<'a>
