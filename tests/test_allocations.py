@@ -17,7 +17,7 @@ def asks_for_no_growth(first, wanted):
     out asks for a thousand allocations more."""
     def asked(turns):
         lines = ["new 100", "feed " + first.hex(), "turns %d %s" % (turns, FRAME.hex())]
-        count, gave = how_many(lambda environment: play("test_framing", lines, environment))
+        count, gave = how_many(lambda environment: play("test_messages", lines, environment))
         expect(gave, (["ok", "ok", "true"], 0), "the answers with %d turns" % turns)
         return count
 

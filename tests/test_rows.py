@@ -8,12 +8,12 @@ from support.program import expect
 
 def what_is_no_command_ends_a_run():
     for line in ("fed 00", "feed", "feed 00 00", "feed 0", "feed 0g", "new", "new x", "new 4294967296", "next ", " next", ""):
-        expect(play("test_framing", ["new 5", line, "next"]), (["ok", "?"], 2), "the answers with the line %r" % line)
+        expect(play("test_messages", ["new 5", line, "next"]), (["ok", "?"], 2), "the answers with the line %r" % line)
 
 
 def an_answer_that_is_not_taken_ends_a_run():
     with open("/dev/full", "wb") as full:
-        ran = subprocess.run([program_of("test_framing")], input=b"new 5\nnext\n", stdout=full, timeout=SECONDS)
+        ran = subprocess.run([program_of("test_messages")], input=b"new 5\nnext\n", stdout=full, timeout=SECONDS)
     expect(ran.returncode, 1, "the status with a full device")
 
 

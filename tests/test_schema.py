@@ -1,9 +1,10 @@
-"""Every response and event that the adapter can write, held against the protocol's published schema."""
+"""Every request as it is written, and every response and event, held against the protocol's published schema."""
 import json
 import os
 import subprocess
 
 from rows.messages import PLAYER, REFUSALS
+from rows.requests import EACH
 from rows.requests import NAMES as REQUESTS
 from support import schema
 from support.players import play, tables
@@ -57,6 +58,13 @@ def every_message_is_valid_by_the_published_schema():
     expect([fault for text in texts for fault in schema.faults_of(json.loads(text))], [], "what is wrong by the schema")
 
 
+def every_request_is_valid_by_the_published_schema():
+    """As an editor writes it that uses `requests`."""
+    texts = [json.loads(bytes.fromhex(answer)) for row in EACH for command, answer in row.steps if command.startswith("asked ")]
+    expect(sorted({text["command"] for text in texts}), sorted(REQUESTS), "the requests")
+    expect([fault for text in texts for fault in schema.faults_of(text)], [], "what is wrong by the schema")
+
+
 # A message by its type and the rest of it, and what is wrong with it.
 WRONG = (
     ("request", {"command": "initialize", "arguments": {}}, ["InitializeRequest.arguments: adapterID is absent"]),
@@ -97,5 +105,5 @@ def checks():
     """Each check with its name."""
     published = (the_table_is_that_of_the_published_schema,) if PUBLISHED else ()
     return [(check.__name__.replace("_", " "), check) for check in (
-        every_message_is_valid_by_the_published_schema, a_message_that_is_wrong_by_the_schema_is_found,
+        every_message_is_valid_by_the_published_schema, every_request_is_valid_by_the_published_schema, a_message_that_is_wrong_by_the_schema_is_found,
         a_conversation_that_is_wrong_is_found, *published)]

@@ -1,7 +1,7 @@
 """Streams of the base protocol, and what they are read as; frames of bodies; the texts of errors."""
 from support.players import NO_MEMORY, Row, alike, tried
 
-PLAYER = "test_framing"
+PLAYER = "test_messages"
 TAKES_NONE = {"Unframer::new": "new", "Unframer::next_body": "next", "Unframer::peek_body": "peek", "Unframer::retract": "retract"}
 LIMIT = 1048576
 
@@ -46,7 +46,7 @@ def turns(count, piece):
 
 
 def text(error, wanted):
-    return "text " + error, wanted
+    return "fault " + error, wanted
 
 
 NONE_WAITS = ("next", "none")

@@ -1,5 +1,6 @@
 """Requests with their arguments, each as it is read from a body: every argument given, none that may be absent, and odd ones."""
 from base64 import b64encode
+from json import dumps, loads
 
 from support.players import Row
 
@@ -166,12 +167,42 @@ def extremes(form):
     return steps
 
 
+# What a request says that the adapter never looks at, and those that have no arguments.
+UNREAD = {"initialize": {"adapterID": "rvdap"}, "setBreakpoints": {"source": {}}, "setExceptionBreakpoints": {"filters": []}}
+BARE = ("configurationDone", "threads", "restart", "terminate")
+
+
+def defaults(members):
+    """What is written of arguments that were absent: those that then have a value."""
+    return {name: absent.lower() if absent in ("0", "true", "false") else quoted(absent.lower())
+            for name, _, _, _, absent in members if absent not in (None, "none")}
+
+
+def asked(form, made):
+    """A request that was read is written, with each argument that has a value."""
+    name, arguments, _ = made(form)
+    given = merged(loads(form[2](object_of(defaults(form[1])))), loads(arguments))
+    message = {"command": name, "seq": 7, "type": "request"}
+    if name not in BARE:
+        message["arguments"] = {**given, **UNREAD.get(name, {})}
+    return "asked " + spelled(body_of(name, arguments)), spelled(dumps(message, sort_keys=True, separators=(",", ":"), ensure_ascii=False))
+
+
+def merged(one, other):
+    """The members of both; of lists with one entry those of the entries."""
+    if isinstance(other, list):
+        return [merged(*both) for both in zip(one, other)]
+    return {key: merged(one[key], value) if isinstance(value, (dict, list)) and key in one else value for key, value in {**one, **other}.items()}
+
+
 NAMES = [name for name, *_ in FORMS]
 NO_NEED = [form for form in FORMS if all(absent is not None for *_, absent in form[1])]
 
 EACH = [
     Row("each request with every argument", [is_read(whole(form)) for form in FORMS], SCHEMA),
     Row("each request with what it needs alone", [is_read(least(form)) for form in FORMS], SCHEMA),
+    Row("each request as an editor writes it", [asked(form, made) for form in FORMS for made in (whole, least)],
+        "the published schema's properties in order of their names; what is absent is written as docs/PROTOCOL.md says that it counts"),
     Row("arguments that may be absent may be so as a whole", [
         read(form[0], arguments, *least(form)[2]) for form in NO_NEED for arguments in (None, "null", "{}")], SCHEMA),
     Row("arguments that are needed may not", [
@@ -288,6 +319,8 @@ GREATEST = [
     ], SCHEMA),
     Row("a text as long as a body lets it be", [
         read("evaluate", '{"expression":"%s"}' % ("y" * 1048000), spelled("y" * 1048000), "none"),
+        ("asked " + spelled(body_of("evaluate", '{"expression":"%s"}' % ("y" * 1048000))),
+         spelled('{"arguments":{"expression":"%s"},"command":"evaluate","seq":7,"type":"request"}' % ("y" * 1048000))),
         bytes_are("A" * 1048000, b"\0" * 786000),
     ], SCHEMA, refused=True),
     Row("a request that found no memory for its arguments can be read again", [

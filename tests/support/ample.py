@@ -4,6 +4,7 @@ refuse a call that answers so for no reason. A row is `table: "name"`."""
 ROWS = {
     'Unframer::feed, frame': 'framing: "a body of 1 MiB comes back in pieces of 65,536 bytes", "a body of 1 MiB is framed"',
     'read_request, json_value': 'messages: "requests of the greatest length", "values of the greatest length"',
+    'write_request': 'requests: "each request as an editor writes it", "a text as long as a body lets it be"',
     'write_message, read_message, Response::error': 'messages: "a name as long as a body lets it be, of letters"; events: "output of 1,000,000 bytes"',
     'Response::success, ack': 'messages: "texts of the answers with the greatest numbers"',
     'Session::recv': 'session: "with 256 requests that wait no piece is taken", "a piece has at most 65,536 bytes"',

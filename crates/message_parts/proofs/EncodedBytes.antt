@@ -18,12 +18,13 @@ pub are_bytes-IsBytes : (numbers : List ℕ) → IsBytes numbers → are_bytes n
 are_bytes-IsBytes [] h = refl
 are_bytes-IsBytes (n ∷ ns) h = rw (lt-ltb n 256 (h 0), are_bytes-IsBytes ns (λ i. h (suc i))) refl
 
+pub decoded_of-encode_of : (bytes : List ℕ) → are_bytes bytes ≡ true → decoded_of standard (encode_of standard bytes) ≡ Some bytes
+decoded_of-encode_of bytes h =
+    decoded_of-ok standard (encode_of standard bytes) bytes (decode_of-encode_of standard bytes refl (IsBytes-are_bytes bytes h))
+
 pub bytes_in-encode_of : (bytes : List ℕ) → are_bytes bytes ≡ true → bytes_in (encode_of standard bytes) ≡ Some bytes
 unfolding bytes_in
-bytes_in-encode_of bytes h =
-    let is : decoded_of standard (encode_of standard bytes) ≡ Some bytes = decoded_of-ok standard (encode_of standard bytes) bytes
-    (decode_of-encode_of standard bytes refl (IsBytes-are_bytes bytes h)) in
-    rw (is, h) refl
+bytes_in-encode_of bytes h = rw (decoded_of-encode_of bytes h, h) refl
 
 -- what is decoded is found, where it is bytes
 pub bytes_in-decoded_of : (text bytes : List ℕ) → decoded_of standard text ≡ Some bytes → IsBytes bytes → bytes_in text ≡ Some bytes

@@ -1,5 +1,6 @@
 pub mod Common
 pub mod Texts
+pub mod Printing
 pub mod Appending
 pub mod Lawful
 pub mod Simple

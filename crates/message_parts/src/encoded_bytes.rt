@@ -17,13 +17,8 @@ use protocol::Unread;
 use serde_json::Value;
 use std::alloc::{AllocError, Global};
 
-/// A member that is bytes. It fails where no memory is left, and then the writer is of no more use.
-pub(crate) fn member(
-    alloc: Global,
-    out: &mut Writer,
-    name: &str,
-    bytes: &Bytes,
-) -> Result<(), AllocError>
+/// Writes a member of this name that is bytes. It fails where no memory is left, and then the writer is of no more use.
+pub fn member(alloc: Global, out: &mut Writer, name: &str, bytes: &Bytes) -> Result<(), AllocError>
     ensures { OnOk result (AreWritten out.old out.new
         (member name.now (encoded_bytes.value bytes.now) no_members)) }
 {

@@ -13,7 +13,7 @@ mod address;
 pub mod continue_;
 pub mod continued;
 pub mod disassemble;
-mod encoded_bytes;
+pub mod encoded_bytes;
 pub mod evaluate;
 pub mod exited;
 pub mod find;

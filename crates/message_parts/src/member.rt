@@ -23,12 +23,8 @@ pub fn part<T: Part>(out: &mut Writer, name: &str, part: &T) -> Result<(), Alloc
     part.write(out)
 }
 
-/// A member that is a part, where it is there.
-pub(crate) fn part_if<T: Part>(
-    out: &mut Writer,
-    name: &str,
-    part: &Option<T>,
-) -> Result<(), AllocError>
+/// Writes a member of this name that is a part, where it is there.
+pub fn part_if<T: Part>(out: &mut Writer, name: &str, part: &Option<T>) -> Result<(), AllocError>
     ensures { OnOk result (AreWritten out.old out.new
         (member_if name.now T.form.value part.now no_members)) }
 {
@@ -71,8 +67,8 @@ pub fn number(out: &mut Writer, name: &str, value: u32) -> Result<(), AllocError
     self::part(out, name, &value)
 }
 
-/// A member that is a whole number, which may be below 0.
-pub(crate) fn signed(out: &mut Writer, name: &str, value: i32) -> Result<(), AllocError>
+/// Writes a member of this name that is a whole number, which may be below 0.
+pub fn signed(out: &mut Writer, name: &str, value: i32) -> Result<(), AllocError>
     ensures { OnOk result (AreWritten out.old out.new
         (member name.now (forms.signed.value value) no_members)) }
 {

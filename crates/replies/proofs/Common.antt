@@ -4,7 +4,7 @@ pub use Rattle.message_parts.proofs.Addresses.{lawful_address}
 pub use Rattle.message_parts.proofs.Appending.{and_then, if_then, object_written}
 pub use Rattle.message_parts.proofs.Lawful.{Lawful, lawful_either, lawful_field, lawful_fixed, lawful_list, lawful_made_of, lawful_none, lawful_object, lawful_one_of, lawful_optional, lawful_signed, lawful_text, lawful_unless_empty, lawful_whole, LawfulFields, then_is}
 pub use Rattle.message_parts.proofs.Simple.{is_simple, IsPlain-is_simple}
-pub use Rattle.message_parts.proofs.Texts.{AreMembersPlain, IsPlain, json_of-compact_text, json_of-tokens}
+pub use Rattle.message_parts.proofs.Texts.{AreMembersPlain, IsPlain, json_of-compact_text}
 pub use Rattle.message_parts.specs.Forms.{AreTexts, either, field, Fields, first_named, fixed, Form, is_in_if, is_word, member_if, none, optional, text, unless_empty, whole}
 pub use Rattle.message_parts.specs.Order.{is_ordered}
 pub use Rattle.protocol.specs.Json.{json_of}

@@ -2,7 +2,6 @@ pub mod Common
 pub mod Bodies
 pub mod Sameness
 pub mod Values
-pub mod Printing
 pub mod Claiming
 pub mod Finding
 pub mod Refusals

@@ -1,43 +1,58 @@
-//! Plays `protocol` and `replies`: bodies that are read as requests, and responses and events that are made, written and read.
+//! Plays `framing`, `protocol`, `requests` and `replies`: frames of bodies, bodies that are read as requests, these as an editor writes them, and responses and events that are made, written and read.
 #![tactic(auto)]
 
 mod arguments;
 mod bodies;
 mod errors;
 mod events;
-mod requests;
+mod frames;
+mod incoming;
 mod responses;
 
 use errors::{error_named, refusal_named, show_error, show_refusal};
 use events::{event_of, show_event};
+use frames::Frames;
+use incoming::show_incoming;
 use protocol::json::json_value;
-use protocol::{Incoming, MessageError, Text, read_request};
+use protocol::{Incoming, MessageError, Request, Text, read_request};
 use replies::{Message, Response, read_message, write_message};
-use requests::show_incoming;
+use requests::write_request;
 use responses::{ack, done, refuse, refused, show_response, success, text_of};
 use std::alloc::Global;
 use std::process::ExitCode;
 use testing::{Fault, Line, Player, bytes_of, called, parsed, play};
 
-/// What is played: the message that was made or read last.
+/// What is played: frames, and the message that was made or read last.
 #[derive(Drop)]
 struct Messages {
+    frames: Frames,
     last: Option<Message>,
 }
 
 fn main(rt: HostRuntime) -> ExitCode {
-    play(&rt, &mut Messages { last: None })
+    let mut messages = Messages {
+        frames: Frames::new(rt.alloc()),
+        last: None,
+    };
+    play(&rt, &mut messages)
 }
 
 impl Player for Messages {
     fn answer(&mut self, alloc: Global, arguments: &[&str]) -> Result<String, Fault> {
-        let mut line = Line::new(alloc);
-        self.show(alloc, arguments, &mut line)?;
-        Ok(line.into_string())
+        match self.frames.answer(alloc, arguments) {
+            Err(Fault::NoCommand) => self.answer_of_messages(alloc, arguments),
+            answer => answer,
+        }
     }
 }
 
 impl Messages {
+    fn answer_of_messages(&mut self, alloc: Global, arguments: &[&str]) -> Result<String, Fault> {
+        let mut line = Line::new(alloc);
+        self.show(alloc, arguments, &mut line)?;
+        Ok(line.into_string())
+    }
+
     /// Makes the call, and shows what it answered. Each command is one call, since a way out of one of
     /// many is proved beside all others.
     fn show(&mut self, alloc: Global, arguments: &[&str], line: &mut Line) -> Result<(), Fault> {
@@ -103,6 +118,7 @@ fn write(alloc: Global, seq: u32, message: &Message, line: &mut Line) -> Result<
 fn show_call(alloc: Global, command: &str, argument: &str, line: &mut Line) -> Result<(), Fault> {
     match command {
         "request" => request(line, read_request(alloc, &bytes_of(alloc, argument)?)),
+        "asked" => asked(alloc, argument, line),
         "json" => json(alloc, argument, line),
         "text" => text(text_of(alloc, argument)?, line),
         "refusal" => show_refusal(line, refusal_named(argument)?),
@@ -114,6 +130,17 @@ fn show_call(alloc: Global, command: &str, argument: &str, line: &mut Line) -> R
 fn request(line: &mut Line, read: Result<Incoming, MessageError>) -> Result<(), Fault> {
     match read {
         Ok(incoming) => show_incoming(line, &incoming),
+        Err(error) => show_error(line, error),
+    }
+}
+
+/// A body that is a request, as an editor writes it.
+fn asked(alloc: Global, body: &str, line: &mut Line) -> Result<(), Fault> {
+    match read_request(alloc, &bytes_of(alloc, body)?) {
+        Ok(Incoming::Request(Request { seq, command })) => {
+            line.bytes(&called(write_request(alloc, seq, &command))?)
+        }
+        Ok(_) => Err(Fault::NoCommand),
         Err(error) => show_error(line, error),
     }
 }

@@ -2,7 +2,7 @@
 
 use crate::bodies::show_body;
 use crate::errors::refusal_named;
-use crate::requests::request_named;
+use crate::incoming::request_named;
 use protocol::{Request, Text};
 use replies::{Outcome, Response, ResponseBody};
 use std::alloc::Global;

@@ -1,24 +1,25 @@
-//! Plays `framing`: an unframer that is fed pieces and lends bodies, and the frame of a body.
-#![tactic(auto)]
+//! An unframer that is fed pieces and lends bodies, and the frame of a body.
 
 use framing::{FrameError, Unframer, frame};
 use std::alloc::Global;
-use std::process::ExitCode;
-use testing::{Fault, Player, bytes_of, called, hexadecimal, parsed, play, shown};
+use testing::{Fault, bytes_of, called, hexadecimal, parsed, shown};
 
-/// What is played. The first unframer takes empty bodies alone.
+/// What is played.
 #[derive(Drop)]
-struct Framing {
+pub(crate) struct Frames {
     unframer: Unframer,
 }
 
-fn main(rt: HostRuntime) -> ExitCode {
-    let unframer = Unframer::new(rt.alloc(), 0);
-    play(&rt, &mut Framing { unframer })
-}
+impl Frames {
+    /// An unframer that takes empty bodies alone.
+    pub(crate) fn new(alloc: Global) -> Frames {
+        Frames {
+            unframer: Unframer::new(alloc, 0),
+        }
+    }
 
-impl Player for Framing {
-    fn answer(&mut self, alloc: Global, arguments: &[&str]) -> Result<String, Fault> {
+    /// Makes the call, and says what it answered.
+    pub(crate) fn answer(&mut self, alloc: Global, arguments: &[&str]) -> Result<String, Fault> {
         match arguments {
             ["new", limit] => {
                 self.unframer = Unframer::new(alloc, parsed(limit)?);
@@ -40,7 +41,7 @@ impl Player for Framing {
             ["peek"] => body_of(alloc, self.unframer.peek_body()),
             ["next"] => body_of(alloc, self.unframer.next_body()),
             ["frame", body] => hexadecimal(alloc, &called(frame(alloc, &bytes_of(alloc, body)?))?),
-            ["text", name] => shown(alloc, error_of(name)?),
+            ["fault", name] => shown(alloc, error_of(name)?),
             _ => Err(Fault::NoCommand),
         }
     }
