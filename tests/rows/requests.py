@@ -202,7 +202,7 @@ EACH = [
     Row("each request with every argument", [is_read(whole(form)) for form in FORMS], SCHEMA),
     Row("each request with what it needs alone", [is_read(least(form)) for form in FORMS], SCHEMA),
     Row("each request as an editor writes it", [asked(form, made) for form in FORMS for made in (whole, least)],
-        "the published schema's properties in order of their names; what is absent is written as docs/PROTOCOL.md says that it counts"),
+        "the published schema's properties in the order of their names; one that is absent has the value that docs/PROTOCOL.md gives it"),
     Row("arguments that may be absent may be so as a whole", [
         read(form[0], arguments, *least(form)[2]) for form in NO_NEED for arguments in (None, "null", "{}")], SCHEMA),
     Row("arguments that are needed may not", [
