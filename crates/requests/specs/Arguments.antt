@@ -2,7 +2,7 @@
 --
 -- An object has a member for each argument that the request has, also where it is what an absent one would be. The names
 -- stand in byte order, as they do in what the adapter sends. The standard asks for two arguments that the adapter never
--- looks at: who the editor is (`InitializeRequestArguments.adapterID`), and at which exceptions to stop
+-- looks at: which adapter is meant (`InitializeRequestArguments.adapterID`), and at which exceptions to stop
 -- (`SetExceptionBreakpointsArguments.filters`), which is at none.
 use Rattle.std.specs.Prelude.{ℕ, ℤ, Bool, true, false, List, [], ◌∷◌, Option, Some, codes}
 use Rattle.serde_json.specs.Data.{Members, array, no_items, no_members, string}

@@ -2,7 +2,7 @@
 --
 -- A request is an object of its number, its name, and its arguments where it has any. Its text is the compact one (RFC 8259
 -- without insignificant whitespace), so a request has one text.
-use Rattle.std.specs.Prelude.{◌≡◌, ℕ, ℤ, int_le, neg_ℤ, pos, nat_le, nat_lt, ◌&&◌, ◌++◌, Bool, true, List, Option, Some, None, codes, IsTrue, refl, if◌then◌else◌}
+use Rattle.std.specs.Prelude.{◌≡◌, ℕ, pos, nat_le, ◌&&◌, Bool, true, List, Option, Some, None, codes, refl, if◌then◌else◌}
 use Rattle.std.specs.List.{list_all}
 use Rattle.serde_json.specs.Data.{Data, Members, member, no_members, number, object, string, unsigned}
 use Rattle.std.specs.Fmt.{digits}

@@ -4,9 +4,9 @@ ghost use Rattle.requests.specs.Arguments as spec;
 
 use protocol::{Filter, Granularity};
 
-/// Who the editor is (`InitializeRequestArguments.adapterID`, where the standard asks which adapter it means to talk to).
+/// Which adapter the editor means to talk to (`InitializeRequestArguments.adapterID`).
 pub(crate) const ADAPTER_ID: &str = "adapterID";
-/// The adapter that is meant.
+/// This one.
 pub(crate) const RVDAP: &str = "rvdap";
 /// The exceptions to stop at (`SetExceptionBreakpointsArguments.filters`).
 pub(crate) const FILTERS: &str = "filters";

@@ -19,8 +19,9 @@ use std::alloc::{AllocError, Global};
 /// The bytes that most requests fit in.
 const USUAL_LEN: usize = 128;
 
-/// A request of this command as the body of a frame: compact JSON. The adapter reads it as that request, where its number is at
-/// most 2,147,483,647 and its numbers are in the ranges that `protocol` gives for them. It fails where no memory is left.
+/// A request with this number and command (`Request`) as the body of a frame: compact JSON. `protocol::read_request` reads it as that
+/// request, where its number is at most 2,147,483,647 and its numbers are in the ranges that `protocol` gives for them. It fails where
+/// no memory is left.
 pub fn write_request(alloc: Global, seq: u32, command: &Command) -> Result<Vec<u8>, AllocError>
     ensures text { IfOk result (λ b. b.items ≡ request_text seq command.now) }
     ensures value { IfOk result (λ b. json_of b.items ≡ Some (request_data seq command.now)) }

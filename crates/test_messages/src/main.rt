@@ -1,4 +1,5 @@
-//! Plays `framing`, `protocol`, `requests` and `replies`: frames of bodies, bodies that are read as requests, these as an editor writes them, and responses and events that are made, written and read.
+//! Plays `framing`, `protocol`, `requests` and `replies`: frames of bodies, bodies that are read as requests, these as an editor
+//! writes them, and responses and events that are made, written and read.
 #![tactic(auto)]
 
 mod arguments;
@@ -47,6 +48,7 @@ impl Player for Messages {
 }
 
 impl Messages {
+    /// Makes a call that is about messages, and says what it answered.
     fn answer_of_messages(&mut self, alloc: Global, arguments: &[&str]) -> Result<String, Fault> {
         let mut line = Line::new(alloc);
         self.show(alloc, arguments, &mut line)?;
