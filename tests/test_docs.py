@@ -55,7 +55,7 @@ def the_headline_is_one_sentence():
               for name in ("README.md", "docs/HEADLINE.md")}
     for name, blocks in quoted.items():
         expect(blocks.count(HEADLINE), 1, "%s: the headline" % name)
-    laws = text_of("crates", "headline", "src", "laws.rt")
+    laws = text_of("crates", "session_laws", "src", "laws.rt")
     above = re.search(r"((?:^///.*\n)+)pub fn what_an_editor_concludes_was_true\(\)", laws, re.M)
     expect(" ".join(re.sub(r"^/// ?", "", above[1], flags=re.M).split()), HEADLINE, "the headline above its law")
 

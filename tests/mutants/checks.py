@@ -94,14 +94,19 @@ class Report:
             elif error and not error[1].startswith("proofs/"):
                 self.unread[error[1], int(error[2]) - 1] = line
             elif error and (GONE.search(line) or not LOST.search(line)):
-                name = plain(os.path.dirname(error[1][len("proofs/"):]).replace("/", "::"))
                 found = self.gone if GONE.search(line) else self.open
-                found.setdefault(name, []).append(error[3] or error[4])
+                found.setdefault(owner_of(error[1]), []).append(error[3] or error[4])
 
 
 def within(found, names):
     """What was found of these functions and of the closures in them."""
     return sorted({one for it in names for name, all in found.items() if (name + "::").startswith(it + "::") for one in all})
+
+
+def owner_of(path):
+    """The function that a file of proofs/ is about, or "" where it has lemmas: such a file, or the folder that it is in, begins with a capital letter."""
+    folder = os.path.dirname(path)[len("proofs/"):]
+    return "" if folder[:1].isupper() else plain(folder.replace("/", "::"))
 
 
 def plain(name):

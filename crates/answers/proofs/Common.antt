@@ -15,13 +15,13 @@ pub use Rattle.answers.specs.Targets.{frame_of, frame_refusal, number_for, targe
 pub use Rattle.answers.specs.declared.problem.Problem.{Problem}
 pub use Rattle.answers.specs.declared.view.View.{View}
 pub use Rattle.breakpoints.specs.Stops.{CanBeSet, Wanted, wanted_by}
-pub use Rattle.expressions.specs.Texts.{IsTreeOf, Parses}
-pub use Rattle.expressions.specs.Tokens.{IsTokens, Spells}
-pub use Rattle.expressions.specs.Trees.{Binary, Enclosed, nesting, Number, Pc, Register, tokens_of, Tree, Unary}
-pub use Rattle.expressions.specs.declared.token.Bracket.TheVariants.{Round, Square}
-pub use Rattle.expressions.specs.declared.token.Infix.{Infix}
-pub use Rattle.expressions.specs.declared.token.Infix.TheVariants.{And, AndThen, Equal, Greater, GreaterEqual, Less, LessEqual, Minus, NotEqual, Or, OrElse, Plus, ShiftLeft, ShiftRight, Times, Xor}
-pub use Rattle.expressions.specs.declared.token.Token.{Token}
+pub use Rattle.breakpoints.specs.Texts.{IsTreeOf, Parses}
+pub use Rattle.breakpoints.specs.Tokens.{IsTokens, Spells}
+pub use Rattle.breakpoints.specs.Trees.{Binary, Enclosed, nesting, Number, Pc, Register, tokens_of, Tree, Unary}
+pub use Rattle.breakpoints.specs.declared.token.Bracket.TheVariants.{Round, Square}
+pub use Rattle.breakpoints.specs.declared.token.Infix.{Infix}
+pub use Rattle.breakpoints.specs.declared.token.Infix.TheVariants.{And, AndThen, Equal, Greater, GreaterEqual, Less, LessEqual, Minus, NotEqual, Or, OrElse, Plus, ShiftLeft, ShiftRight, Times, Xor}
+pub use Rattle.breakpoints.specs.declared.token.Token.{Token}
 pub use Rattle.image.specs.Lines.{bind, covers, label_address, line_in, line_of, Row, start_of, Table}
 pub use Rattle.image.specs.Memory.{byte_at, bytes_at, fault_at, first_address, has_bytes, little_endian, unless_fault}
 pub use Rattle.message_parts.specs.EncodedBytes.{are_bytes}

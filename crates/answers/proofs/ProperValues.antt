@@ -1,7 +1,7 @@
 -- Answers of variables, values and writes can be sent: their numbers are in their ranges.
 use Rattle.answers.proofs.Common.{[], All, All-set, are_bytes, arith, Bool, bytes_at, can_begin, codes, cond, counter, Debugged, Done, drop, eqb, Err, expression_of, false, fault_at, first_address, Frame, frame_refusal, Hart, HoldsWords, IfOk, IsOutcomeOf, leb, length, length-drop, length-take, List, list_all, little_endian, lt-ltb, ltb, map, min, name_answer, nat_tests, None, Numbers, numbers as register_numbers, numeral, NumeralError, offset_by, Ok, Option, OutsideMemory, part, prefixed, range_with_len, refl, Refusal, register, Registers, Result, result_ok, set_in, setting_of, SettingsAreProper, SettingsKeepWords, slice_index, Some, Stack, start_at, subst, suc, take, take_while, Target, target_of, TooMuch, Tree, true, with_register, word_by, word_of, WritingsAreProper, WritingsFit, zero, ℕ, ◌*◌, ◌++◌, ◌+◌, ◌-◌, ◌<◌, ◌∷◌, ◌≡◌, ◌≤◌}
-use Rattle.expressions.specs.Values.{value_of as value_in}
-use Rattle.expressions.specs.declared.error.ExprFault.{ExprFault}
+use Rattle.breakpoints.specs.Values.{value_of as value_in}
+use Rattle.breakpoints.specs.declared.error.ExprFault.{ExprFault}
 use Rattle.protocol.specs.declared.evaluate.EvaluateArguments.{EvaluateArguments}
 use Rattle.protocol.specs.declared.filter.Filter.{Filter}
 use Rattle.protocol.specs.declared.filter.Filter.TheVariants.{Indexed, Named}

@@ -1,9 +1,9 @@
 -- Which expression a text is, as a function and by the rules.
 use Rattle.answers.proofs.Common.{[], ap, arith, Bool, cond, Err, ExpressionsAreRead, false, if_shallow, IsExpression, IsTreeOf, le-leb, leb, leb-true, length, List, nesting, None, Option, Parses, refl, Some, subst, Token, tokens_of as tokens_in, Tree, tree_among, true, ℕ, ◌<◌, ◌∙◌, ◌≡◌, ◌≤◌}
-use Rattle.expressions.specs.Scanning.{lexemes}
-use Rattle.expressions.specs.declared.error.ExprError.TheVariants.{Syntax, TooDeep, TooLong}
-use Rattle.expressions.proofs.Deciding.{is_tree, spelled_by_tree, unique}
-use Rattle.expressions.proofs.Grouping.{tree_found}
+use Rattle.breakpoints.specs.Scanning.{lexemes}
+use Rattle.breakpoints.specs.declared.error.ExprError.TheVariants.{Syntax, TooDeep, TooLong}
+use Rattle.breakpoints.proofs.Deciding.{is_tree, spelled_by_tree, unique}
+use Rattle.breakpoints.proofs.Grouping.{tree_found}
 use Rattle.answers.specs.Expressions.{expression_of, tokens_of}
 use Rattle.answers.proofs.Tokens.{tokens_found, tokens_spelled}
 

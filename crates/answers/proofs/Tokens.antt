@@ -4,10 +4,10 @@ use Rattle.std.proofs.Common.{codes}
 use Rattle.std.proofs.lemmas.Slice.Eq.{bytes_eq-Decides}
 use Rattle.std.specs.Str.{bytes_eq}
 use Rattle.rv32i.specs.Names.{Names, name_of, numbered_name_of}
-use Rattle.expressions.specs.Scanning.{Spelled}
-use Rattle.expressions.specs.declared.token.Token.TheVariants as t
-use Rattle.expressions.proofs.Lexemes.{either}
-use Rattle.expressions.proofs.Words.{one_token}
+use Rattle.breakpoints.specs.Scanning.{Spelled}
+use Rattle.breakpoints.specs.declared.token.Token.TheVariants as t
+use Rattle.breakpoints.proofs.Lexemes.{either}
+use Rattle.breakpoints.proofs.Words.{one_token}
 use Rattle.answers.specs.Expressions.{token_of, tokens_of}
 
 -- ---- tests

@@ -5,12 +5,12 @@ use Rattle.std.specs.Char.{is_digit}
 use Rattle.std.proofs.lemmas.Nat.{and_le_l, or_lt, xor_lt}
 use Rattle.numerals.specs.declared.NumeralError.TheVariants.{Malformed, TooLarge}
 use Rattle.rv32i.specs.Machine.{flag, is_less_than, places}
-use Rattle.expressions.specs.Values.{Valued, before, between, decides, enclosed, is_true, value_of, with_value}
-use Rattle.expressions.specs.declared.error.ExprFault.TheVariants.{Outside}
-use Rattle.expressions.specs.declared.token.Bracket.{Bracket}
-use Rattle.expressions.specs.declared.token.Prefix.{Prefix}
-use Rattle.expressions.specs.declared.token.Prefix.TheVariants.{Negate, Complement, Not}
-use Rattle.expressions.specs.declared.token.Token.TheVariants as t
+use Rattle.breakpoints.specs.Values.{Valued, before, between, decides, enclosed, is_true, value_of, with_value}
+use Rattle.breakpoints.specs.declared.error.ExprFault.TheVariants.{Outside}
+use Rattle.breakpoints.specs.declared.token.Bracket.{Bracket}
+use Rattle.breakpoints.specs.declared.token.Prefix.{Prefix}
+use Rattle.breakpoints.specs.declared.token.Prefix.TheVariants.{Negate, Complement, Not}
+use Rattle.breakpoints.specs.declared.token.Token.TheVariants as t
 use Rattle.answers.proofs.ProperLooks.{both, of_bytes, some_dropped}
 use Rattle.answers.proofs.Reading.{is_expression}
 

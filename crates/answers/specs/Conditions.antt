@@ -6,7 +6,7 @@
 use Rattle.std.specs.Prelude.{◌≡◌, ℕ, ◌≤◌, nat_le, if◌then◌else◌, List, length, Option, Some, None, Result, Ok, Err, codes, refl}
 use Rattle.numerals.specs.Numerals.{numeral}
 use Rattle.numerals.specs.declared.NumeralError.{NumeralError}
-use Rattle.expressions.specs.Trees.{Tree}
+use Rattle.breakpoints.specs.Trees.{Tree}
 use Rattle.answers.specs.Expressions.{expression_of}
 use Rattle.answers.specs.Spaces.{said}
 use Rattle.answers.specs.declared.problem.Problem.{Problem}

@@ -4,9 +4,9 @@
 -- this stop; of outer frames nothing else is known, so each frame gives the same value. A text that is no expression is
 -- refused, and so is one that reads a word outside memory.
 use Rattle.std.specs.Prelude.{ℕ, List, Option, Some, None, Result, Ok, Err}
-use Rattle.expressions.specs.Trees.{Tree}
-use Rattle.expressions.specs.Values.{value_of}
-use Rattle.expressions.specs.declared.error.ExprFault.{ExprFault}
+use Rattle.breakpoints.specs.Trees.{Tree}
+use Rattle.breakpoints.specs.Values.{value_of}
+use Rattle.breakpoints.specs.declared.error.ExprFault.{ExprFault}
 use Rattle.protocol.specs.declared.evaluate.EvaluateArguments.{EvaluateArguments}
 use Rattle.protocol.specs.declared.refusal.Refusal.{Refusal}
 use Rattle.protocol.specs.declared.refusal.Refusal.TheVariants.{BadExpression}

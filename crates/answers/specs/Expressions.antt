@@ -1,6 +1,6 @@
 -- Which expression a text is.
 --
--- `expressions` says by rules when a text is read by a tree (`Texts.IsTreeOf`). As answers are functions of what was
+-- `breakpoints` says by rules when a text is read by a tree (`Texts.IsTreeOf`). As answers are functions of what was
 -- asked, the same is said here as a function: the text is divided into words and signs, each of these is the token that
 -- it spells, and the tokens lead to their tree. The law `Laws.ExpressionsAreRead` says that this is the tree by the
 -- rules, if one exists within the limits, and that otherwise no tree does.
@@ -10,17 +10,17 @@ use Rattle.std.specs.Prelude.{codes}
 use Rattle.numerals.specs.Numerals.{magnitude}
 use Rattle.numerals.specs.declared.NumeralError.{NumeralError}
 use Rattle.rv32i.specs.Names.{name_of, numbered_name_of}
-use Rattle.expressions.specs.Scanning.{lexemes}
-use Rattle.expressions.specs.Shifting.{parsed}
-use Rattle.expressions.specs.Texts.{IsTreeOf}
-use Rattle.expressions.specs.Tokens.{closing, opening, sign_of}
-use Rattle.expressions.specs.Trees.{Tree, nesting}
-use Rattle.expressions.specs.declared.token.Bracket.TheVariants.{Round, Square}
-use Rattle.expressions.specs.declared.token.Infix.TheVariants.{OrElse, AndThen, Or, Xor, And, Equal, NotEqual, Less}
-use Rattle.expressions.specs.declared.token.Infix.TheVariants.{LessEqual, Greater, GreaterEqual, ShiftLeft}
-use Rattle.expressions.specs.declared.token.Infix.TheVariants.{ShiftRight, Plus, Minus, Times}
-use Rattle.expressions.specs.declared.token.Token.{Token}
-use Rattle.expressions.specs.declared.token.Token.TheVariants as t
+use Rattle.breakpoints.specs.Scanning.{lexemes}
+use Rattle.breakpoints.specs.Shifting.{parsed}
+use Rattle.breakpoints.specs.Texts.{IsTreeOf}
+use Rattle.breakpoints.specs.Tokens.{closing, opening, sign_of}
+use Rattle.breakpoints.specs.Trees.{Tree, nesting}
+use Rattle.breakpoints.specs.declared.token.Bracket.TheVariants.{Round, Square}
+use Rattle.breakpoints.specs.declared.token.Infix.TheVariants.{OrElse, AndThen, Or, Xor, And, Equal, NotEqual, Less}
+use Rattle.breakpoints.specs.declared.token.Infix.TheVariants.{LessEqual, Greater, GreaterEqual, ShiftLeft}
+use Rattle.breakpoints.specs.declared.token.Infix.TheVariants.{ShiftRight, Plus, Minus, Times}
+use Rattle.breakpoints.specs.declared.token.Token.{Token}
+use Rattle.breakpoints.specs.declared.token.Token.TheVariants as t
 
 -- a text is the expression that this tree is: at most 1,024 bytes, which nest at most 64 deep
 abbrev pub IsExpression : List ℕ → Tree → Type 0

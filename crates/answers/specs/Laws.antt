@@ -2,7 +2,7 @@
 use Rattle.std.specs.Prelude.{codes, true, false, All, IfOk, IfSome, ◌^◌}
 use Rattle.std.specs.Prelude.{◌≡◌, ◌↔◌, ℕ, ◌+◌, ◌<◌, ◌≤◌, IsTrue, List, [], ◌∷◌, length, map, slice_index}
 use Rattle.std.specs.Prelude.{Option, Some, None, Result, Ok, ℤ, pos, ◌+ℤ◌, ◌*◌, slice_get}
-use Rattle.expressions.specs.Trees.{Tree}
+use Rattle.breakpoints.specs.Trees.{Tree}
 use Rattle.image.specs.Lines.{Table, line_in, start_of}
 use Rattle.image.specs.Memory.{byte_at, fault_at, first_address}
 use Rattle.protocol.specs.Commands.{name_of}

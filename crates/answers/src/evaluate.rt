@@ -3,8 +3,8 @@
 ghost use Rattle.std.specs.Prelude.{◌≡◌, ◌≤◌, length, IfOk, IsTrue, OnErr};
 ghost use Rattle.answers.specs.Evaluate as spec;
 ghost use Rattle.answers.specs.Expressions.{expression_of};
-ghost use Rattle.expressions.specs.Nodes.{tree_of};
-ghost use Rattle.expressions.specs.Values.{value_of};
+ghost use Rattle.breakpoints.specs.Nodes.{tree_of};
+ghost use Rattle.breakpoints.specs.Values.{value_of};
 ghost use Rattle.answers.specs.Looking.{may_allocate};
 
 use crate::targets::frame_refusal;

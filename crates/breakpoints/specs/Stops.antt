@@ -13,9 +13,9 @@ use Rattle.std.specs.Prelude.{ℕ, ◌+◌, ◌≤◌, Bool, true, ◌==◌, nat
 use Rattle.std.specs.Prelude.{map, filter, All, Option, Some, None, Ok, Err, option_map, is_some, slice_get}
 use Rattle.std.specs.List.{list_any}
 use Rattle.rv32i.specs.declared.hart.Hart.{Hart}
-use Rattle.expressions.specs.Nodes.{tree_of}
-use Rattle.expressions.specs.Trees.{Tree}
-use Rattle.expressions.specs.Values.{Valued, is_true, value_of}
+use Rattle.breakpoints.specs.Nodes.{tree_of}
+use Rattle.breakpoints.specs.Trees.{Tree}
+use Rattle.breakpoints.specs.Values.{Valued, is_true, value_of}
 use Rattle.breakpoints.specs.declared.breakpoint.BreakSpec.{BreakSpec}
 use Rattle.breakpoints.specs.declared.breakpoint.Hit.{Hit}
 

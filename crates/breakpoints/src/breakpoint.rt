@@ -3,8 +3,8 @@
 ghost use Rattle.std.specs.Prelude.{◌≡◌};
 ghost use Rattle.breakpoints.specs.Stops.{counted, fresh, holds, logs, reset, stands, stops, wanted_by};
 
+use crate::expr::Expr;
 use crate::log_text::LogText;
-use expressions::Expr;
 use image::Memory;
 use rv32i::Hart;
 use std::marker::Model;
@@ -46,7 +46,7 @@ pub struct Breakpoint {
 impl Model for Breakpoint {
     ghost use Rattle.std.specs.Prelude.{option_map};
     ghost use Rattle.std.specs.Coded.{codes};
-    ghost use Rattle.expressions.specs.Nodes.{tree_of};
+    ghost use Rattle.breakpoints.specs.Nodes.{tree_of};
     ghost use Rattle.breakpoints.specs.Codes.{coded_tree};
     ghost use Rattle.breakpoints.specs.Stops.{Placed};
 

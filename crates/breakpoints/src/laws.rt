@@ -1,6 +1,12 @@
-//! What holds over many checks: each law is the contract of a function that does nothing.
+//! What the definitions promise, of expressions and over many checks: each law is the contract of a function that does nothing.
 
 ghost use Rattle.breakpoints.specs.Laws.{LogsFromItsHit, ResetCountsAnew, StopsFromItsHit};
+ghost use Rattle.breakpoints.specs.Texts.{TreeIsUnique};
+
+/// A text has at most one tree.
+pub fn tree_is_unique()
+    ensures { TreeIsUnique }
+{}
 
 /// A breakpoint stops from its N-th hit on, N being the number that it was set with: at each check where it is hit, and was hit N - 1
 /// times before. A logpoint never stops.

@@ -1,78 +1,95 @@
 -- What the code holds of a stream, before a piece and after it.
-use Rattle.framing.proofs.Common.{[], ap, append-nil, arith, Before, before_by, Begins, Breaks, drop, drop-append-le, drop-drop, drop-take, false, first_by, first_of, Holds, is_broken, length, length-append, length-take, length-take-le, lent_from, List, ltb, None, Option, others_of, Parts, parts_of, range, Reading, reading_of, refl, Some, Start, start_of, Starts, subst, sym, Tail, tail_by, take, take-add, take-append-drop, take-append-le, take-take, take_at, true, Unframed, waiting_in, Waits, with_body, ℕ, ◌++◌, ◌+◌, ◌-◌, ◌∙◌, ◌≡◌, ◌≤◌}
-use Rattle.std.proofs.Common.{length-drop}
+use Rattle.framing.proofs.Common.{[], ap, append-nil, append_assoc, arith, before_by, Breaks, drop, drop-append-le, drop-take, drop_at, Err, false, fault_of, fed, Feeds, first_by, first_of, FrameError, Holds, is_broken, IsSome, length, length-append, length-drop, length-take, length-take-le, lent_from, List, ltb, NoMemory, None, Option, others_of, Partial, Parts, parts_of, range, Reading, reading_of, refl, Some, Start, start_of, Starts, sym, tail_by, take, take-add, take-append-drop, take-take, take_at, true, Unframed, waiting_in, ℕ, ◌++◌, ◌+◌, ◌-◌, ◌∙◌, ◌≡◌, ◌≤◌}
+use Rattle.framing.specs.Private.Parts.{Fits}
 use Rattle.framing.specs.declared.state.Mark.{Mark}
-use Rattle.framing.proofs.Readings.{reading_none, reading_some}
-use Rattle.framing.proofs.Passing.{AllWhole, first_now, whole_with, bodies_with, parts_read}
-use Rattle.framing.proofs.Feeding.{Went, no_memory_fault}
+use Rattle.framing.specs.declared.state.State.TheInside.{Inside}
+use Rattle.framing.proofs.Faults.{fault_from_start}
+use Rattle.framing.proofs.Framing.{first_frame, frame_first}
+use Rattle.framing.proofs.Passing.{AllWhole, bodies_with, first_now, whole_read, whole_with}
+use Rattle.framing.proofs.Readings.{reading_none, some_of}
+use Rattle.std.proofs.Math.Seq.{take-append-add}
 
--- a prefix of a list, by its length
-prefix_here : (prefix after l : List ℕ) (n : ℕ) → l ≡ prefix ++ after → n ≡ length prefix → take n l ≡ prefix
-prefix_here prefix after l n e h = ap (take n) e ∙ take_at prefix after n (sym h)
+-- ---- how the next frame starts
 
-prefix_whole : (prefix l : List ℕ) (n : ℕ) → l ≡ prefix → n ≡ length prefix → take n l ≡ prefix
-prefix_whole prefix l n e h = prefix_here prefix [] l n (e ∙ sym (append-nil prefix)) h
+pub not_broken : (s : Start) → ((fault : FrameError) → s ≡ Breaks fault → ⊥) → is_broken s ≡ false
+not_broken s h = grind arith
 
--- a range, where bytes before it are dropped, where others follow, and where those after it are cut off
-pub range-drop : (l : List ℕ) (d a b : ℕ) → d ≤ a → range (drop d l) (a - d) (b - d) ≡ range l a b
-range-drop l d a b h =
-    let count : b - d - (a - d) ≡ b - a = omega arith in
-    let there : d + (a - d) ≡ a = omega arith in
-    ap (λ (n : ℕ). take n (drop (a - d) (drop d l))) count
-    ∙ ap (take (b - a)) (drop-drop (a - d) d l ∙ ap (λ (n : ℕ). drop n l) there)
+broken_by : (s : Start) (rest : List ℕ) → IsSome (fault_of (tail_by s rest)) → is_broken s ≡ true
+broken_by s rest h = grind arith
 
-pub range-append : (l m : List ℕ) (a b : ℕ) → a ≤ b → b ≤ length l → range (l ++ m) a b ≡ range l a b
-range-append l m a b ordered within =
-    let long : length (drop a l) ≡ length l - a = length-drop a l in
-    let inside : b - a ≤ length (drop a l) = omega arith in
-    let first : a ≤ length l = omega arith in
-    ap (take (b - a)) (drop-append-le a l m first) ∙ take-append-le (b - a) (drop a l) m inside
+pub unbroken_tail : (s : Start) (rest : List ℕ) → is_broken s ≡ false → tail_by s rest ≡ Partial rest
+unbroken_tail s rest h = grind arith
 
-pub range-take : (l : List ℕ) (n a b : ℕ) → a ≤ b → b ≤ length l → b ≤ n → range (take n l) a b ≡ range l a b
-range-take l n a b ordered within cut =
-    let long : b ≤ length (take n l) = rw length-take (omega arith) in
-    sym (range-append (take n l) (drop n l) a b ordered long) ∙ ap (λ (x : List ℕ). range x a b) (take-append-drop n l)
+broken_is : (s : Start) → is_broken s ≡ true → (fault : FrameError) × (s ≡ Breaks fault)
+broken_is s h = grind arith
 
--- a range to a place and on from there
-pub range-on : (l : List ℕ) (a b c : ℕ) → a ≤ b → b ≤ c → range l a c ≡ range l a b ++ range l b c
-range-on l a b c first second =
-    let count : c - a ≡ (b - a) + (c - b) = omega arith in
-    let there : a + (b - a) ≡ b = omega arith in
-    ap (λ (n : ℕ). take n (drop a l)) count ∙ take-add (b - a) (c - b) (drop a l)
-    ∙ ap (λ (x : List ℕ). take (b - a) (drop a l) ++ take (c - b) x) (drop-drop (b - a) a l ∙ ap (λ (n : ℕ). drop n l) there)
+broken_tail : (s : Start) (a b : List ℕ) → is_broken s ≡ true → tail_by s a ≡ tail_by s b
+broken_tail s a b h = grind arith
 
--- how the frame after a fault starts, if there is one
-pub starts_known : (limit : ℕ) (start : Start) (rest : List ℕ) → start ≡ start_of limit rest → Starts limit start rest
-starts_known limit start rest e = record { so = λ _. e; no_other = λ m. no_memory_fault limit rest (sym e ∙ m) }
+pub starts_known : {limit : ℕ} {start : Start} {rest : List ℕ} → start ≡ start_of limit rest → Starts limit start rest
+starts_known {limit} {start} {rest} e = record { so = λ _. e; no_other = λ m. fault_from_start limit rest NoMemory (sym e ∙ m) }
 
-pub starts_broken : (limit : ℕ) (start : Start) (known rest : List ℕ) → is_broken start ≡ true → Starts limit start known
+starts_broken : {limit : ℕ} {start : Start} {known rest : List ℕ} → is_broken start ≡ true → Starts limit start known
     → Starts limit start rest
-starts_broken limit start known rest breaks s = record {
-  so = λ whole. absurd (not_false (sym breaks ∙ whole));
-  no_other = s.no_other;
-} where
-  not_false : true ≡ false → ⊥
-  not_false e = cc
+starts_broken breaks s = record { so = λ whole. cc; no_other = s.no_other }
 
--- what is held, once bytes that were read are dropped
-pub holds-drop : (limit : ℕ) (bytes : List ℕ) (place done dropped : ℕ) (first start : Start) → Holds limit bytes place done first start
-    → dropped ≤ place
-    → Holds limit (drop dropped bytes) (place - dropped) (done - dropped) first start
-holds-drop limit bytes place done dropped first start h within =
-    let ordered : place ≤ done = h.place_within in
-    let inside : done ≤ length bytes = h.done_within in
-    let there : dropped + (done - dropped) ≡ done = omega arith in
-    record {
-      place_within = omega arith;
-      done_within = rw length-drop (omega arith);
-      whole = ap (λ (x : List ℕ). (reading_of limit x).tail) (range-drop bytes dropped place done within) ∙ h.whole;
-      first_is = h.first_is ∙ sym (ap (start_of limit) (range-drop bytes dropped place done within));
-      starts =
-          subst (λ (x : List ℕ). Starts limit start x)
-          (sym (drop-drop (done - dropped) dropped bytes ∙ ap (λ (n : ℕ). drop n bytes) there)) h.starts;
-    }
+-- ---- where it stands in the bytes: after x, the whole frames w, and then r
 
--- what is held, as a value
+pub record Stand (bytes : List ℕ) (place done : ℕ) (x w r : List ℕ) : Type 0 where
+  pub spelled : bytes ≡ x ++ (w ++ r)
+  pub place_is : length x ≡ place
+  pub done_is : length (x ++ w) ≡ done
+
+range_is : {bytes x w r : List ℕ} {place done : ℕ} → Stand bytes place done x w r → range bytes place done ≡ w
+range_is {bytes} {x} {w} {r} {place} {done} s = grind (arith, length-append x w, drop_at x (w ++ r) place, take_at w r (done - place))
+
+waiting_is : (limit : ℕ) {bytes x w r : List ℕ} {place done : ℕ} → Stand bytes place done x w r
+    → waiting_in limit bytes place done ≡ (reading_of limit w).bodies
+waiting_is limit s = ap (λ (l : List ℕ). (reading_of limit l).bodies) (range_is s)
+
+rest_is : {bytes x w r : List ℕ} {place done : ℕ} → Stand bytes place done x w r → drop done bytes ≡ r
+rest_is {bytes} {x} {w} {r} {place} {done} s = grind (arith, append_assoc x w r, drop_at (x ++ w) r done)
+
+-- it stands so in what is held, and is held where it stands so
+stand : {limit : ℕ} {bytes : List ℕ} {place done : ℕ} {first start : Start} → Holds limit bytes place done first start
+    → Stand bytes place done (take place bytes) (range bytes place done) (drop done bytes)
+stand {limit} {bytes} {place} {done} {first} {start} h =
+    grind (arith, take-add place (done - place) bytes, take-append-drop done bytes, append_assoc (take place bytes), length-take-le)
+
+pub held : {limit : ℕ} {first start : Start} {bytes x w r : List ℕ} {place done : ℕ} → Stand bytes place done x w r → AllWhole limit w
+    → first ≡ start_of limit w → Starts limit start r → Holds limit bytes place done first start
+held {limit} {first} {start} {bytes} {x} {w} {r} {place} {done} s whole first_is starts =
+    grind (arith, range_is s, rest_is s, length-append)
+
+-- bytes that were read are dropped, and those at the end are cut off
+stand-drop : {bytes x w r : List ℕ} {place done : ℕ} (d : ℕ) → Stand bytes place done x w r → d ≤ place
+    → Stand (drop d bytes) (place - d) (done - d) (drop d x) w r
+stand-drop {bytes} {x} {w} {r} {place} {done} d s within =
+    grind (arith, drop-append-le d x (w ++ r), drop-append-le d x w, length-drop d x, length-drop d (x ++ w))
+
+stand-take : {bytes x w r : List ℕ} {place done : ℕ} (cut : ℕ) → Stand bytes place done x w r → done ≤ cut
+    → Stand (take cut bytes) place done x w (take (cut - done) r)
+stand-take {bytes} {x} {w} {r} {place} {done} cut s within =
+    grind (arith, append_assoc x w, take-append-add (x ++ w) r (cut - done))
+
+-- bytes follow, more frames are whole, and the first of them were lent
+stand-append : {bytes x w r : List ℕ} {place done : ℕ} (piece more : List ℕ) → Stand bytes place done x w r → more ≡ bytes ++ piece
+    → Stand more place done x w (r ++ piece)
+stand-append {bytes} {x} {w} {r} {place} {done} piece more s e =
+    grind (arith, append_assoc x (w ++ r) piece, append_assoc w r piece)
+
+stand-grow : {bytes x w r : List ℕ} {place done : ℕ} (f t : List ℕ) (now : ℕ) → Stand bytes place done x w r → r ≡ f ++ t
+    → now ≡ length bytes - length t → Stand bytes place now x (w ++ f) t
+stand-grow {bytes} {x} {w} {r} {place} {done} f t now s e l =
+    grind (arith, append_assoc w f t, append_assoc x (w ++ f) t, length-append (x ++ (w ++ f)) t)
+
+stand-pass : {bytes x w r : List ℕ} {place done : ℕ} (f after : List ℕ) → Stand bytes place done x w r → w ≡ f ++ after
+    → Stand bytes (done - length after) done (x ++ f) after r
+stand-pass {bytes} {x} {w} {r} {place} {done} f after s e =
+    grind (arith, append_assoc f after r, append_assoc x f (after ++ r), append_assoc x f after, length-append (x ++ f) after)
+
+-- ---- what is held, as a value
+
 abbrev pub held_by : ℕ → List ℕ → ℕ → ℕ → Start → Option Mark → Unframed
 held_by limit bytes place done start mark = record {
   limit = limit;
@@ -81,265 +98,121 @@ held_by limit bytes place done start mark = record {
   before = before_by limit bytes mark;
 }
 
--- after a fault, bytes that are cut off make no difference
-pub cut_holds : (limit : ℕ) (bytes : List ℕ) (place done cut : ℕ) (first start : Start) → Holds limit bytes place done first start
-    → is_broken start ≡ true → done ≤ cut → Holds limit (take cut bytes) place done first start
-cut_holds limit bytes place done cut first start h broken within =
-    let ordered : place ≤ done = h.place_within in
-    let inside : done ≤ length bytes = h.done_within in
-    let same : range (take cut bytes) place done ≡ range bytes place done = range-take bytes cut place done ordered inside within in
-    record {
-      place_within = ordered;
-      done_within = rw length-take (omega arith);
-      whole = ap (λ (x : List ℕ). (reading_of limit x).tail) same ∙ h.whole;
-      first_is = h.first_is ∙ sym (ap (start_of limit) same);
-      starts = starts_broken limit start (drop done bytes) (drop done (take cut bytes)) broken h.starts;
-    }
+abbrev HoldsIn : Inside → Type 0
+HoldsIn s = Holds s.limit s.bytes.items s.place s.done s.first s.start
 
-pub waiting-take : (limit : ℕ) (bytes : List ℕ) (place done cut : ℕ) (first start : Start) → Holds limit bytes place done first start
-    → done ≤ cut → waiting_in limit (take cut bytes) place done ≡ waiting_in limit bytes place done
-waiting-take limit bytes place done cut first start h within =
-    ap (λ (x : List ℕ). (reading_of limit x).bodies) (range-take bytes cut place done h.place_within h.done_within within)
-
-waiting-drop : (limit : ℕ) (bytes : List ℕ) (place done dropped : ℕ) → dropped ≤ place
-    → waiting_in limit (drop dropped bytes) (place - dropped) (done - dropped) ≡ waiting_in limit bytes place done
-waiting-drop limit bytes place done dropped within =
-    ap (λ (x : List ℕ). (reading_of limit x).bodies) (range-drop bytes dropped place done within)
-
-broken_tail : (start : Start) (a b : List ℕ) → is_broken start ≡ true → tail_by start a ≡ tail_by start b
-broken_tail Waits a b h = absurd (not_true h) where
-  not_true : false ≡ true → ⊥
-  not_true e = cc
-broken_tail (Breaks fault) a b h = refl
-broken_tail (Begins size n) a b h = absurd (not_true h) where
-  not_true : false ≡ true → ⊥
-  not_true e = cc
-
-abbrev all_of : ℕ → List (List ℕ) → Tail → Option Before → Unframed
-all_of limit w t b = record { limit = limit; waiting = w; tail = t; before = b }
-
-abbrev some_before : List (List ℕ) → Tail → Option Before
-some_before w t = Some (record { waiting = w; tail = t })
-
--- a mark, once bytes before it are dropped
+-- after a fault, once bytes that are needed for nothing are dropped and cut off
 abbrev pub moved : Mark → ℕ → Mark
 moved m read = record { place = m.place - read; done = m.done - read; size = m.size - read; first = m.first; start = m.start }
 
--- what is held after a fault, once bytes that are needed for nothing are dropped
-pub record Needed (limit : ℕ) (bytes kept : List ℕ) (place done read : ℕ) (first start : Start) (m : Mark) : Type 0 where
-  pub holds : Holds limit kept (place - read) (done - read) first start
-  pub marked : Holds limit (take (m.size - read) kept) (m.place - read) (m.done - read) m.first m.start
-  pub same : held_by limit kept (place - read) (done - read) start (Some (moved m read)) ≡ held_by limit bytes place done start (Some m)
+pub record Needed (s : Inside) (read cut : ℕ) (m : Mark) (kept : List ℕ) : Type 0 where
+  pub fits : Fits s.limit kept (s.place - read) (s.done - read) s.first s.start (Some (moved m read))
+  pub same : held_by s.limit kept (s.place - read) (s.done - read) s.start (Some (moved m read))
+      ≡ held_by s.limit s.bytes.items s.place s.done s.start (Some m)
 
-pub needed : (limit : ℕ) (bytes kept : List ℕ) (place done read cut : ℕ) (first start : Start) (m : Mark)
-    → Holds limit bytes place done first start → Holds limit (take m.size bytes) m.place m.done m.first m.start → is_broken start ≡ true
-    → read ≤ place → read ≤ m.place → m.size ≤ cut → done ≤ cut → kept ≡ drop read (take cut bytes)
-    → Needed limit bytes kept place done read first start m
-needed limit bytes kept place done read cut first start m h before broken read_place read_mark size_cut done_cut kept_is =
-    let cut_off : List ℕ = take cut bytes in
-    let marked : List ℕ = take m.size bytes in
-    let mark_place : m.place ≤ m.done = before.place_within in
-    let mark_done : m.done ≤ length marked = before.done_within in
-    let mark_long : length marked ≤ m.size = rw length-take (omega arith) in
-    let size_from : read + (m.size - read) ≡ m.size = omega arith in
-    let done_from : read + (m.done - read) ≡ m.done = omega arith in
-    let back : take (m.size - read) kept ≡ drop read marked = ap (take (m.size - read)) kept_is
-    ∙ sym (drop-take read (m.size - read) cut_off) ∙ ap (λ (n : ℕ). drop read (take n cut_off)) size_from
+pub needed : (s : Inside) (read cut : ℕ) (m : Mark) → HoldsIn s → Holds s.limit (take m.size s.bytes.items) m.place m.done m.first m.start
+    → IsSome (fault_of (tail_by s.start (drop s.done s.bytes.items))) → read ≤ s.place → read ≤ m.place → m.size ≤ cut → s.done ≤ cut
+    → Needed s read cut m (drop read (take cut s.bytes.items))
+needed s read cut m h before fault read_place read_mark size_cut done_cut =
+    let bytes : List ℕ = s.bytes.items in
+    let broken = broken_by s.start (drop s.done bytes) fault in
+    let mark_long : length (take m.size bytes) ≤ m.size = rw length-take (omega arith) in
+    let from : read + (m.size - read) ≡ m.size = omega (arith, before.place_within, before.done_within) in
+    let back = sym (drop-take read (m.size - read) (take cut bytes)) ∙ ap (λ n. drop read (take n (take cut bytes))) from
     ∙ ap (drop read) (take-take m.size cut bytes size_cut) in
-    let held = holds-drop limit cut_off place done read first start
-    (cut_holds limit bytes place done cut first start h broken done_cut) read_place in
-    let waiting : waiting_in limit kept (place - read) (done - read) ≡ waiting_in limit bytes place done =
-    ap (λ (x : List ℕ). waiting_in limit x (place - read) (done - read)) kept_is
-    ∙ waiting-drop limit cut_off place done read read_place ∙ waiting-take limit bytes place done cut first start h done_cut in
-    let waited : waiting_in limit (take (m.size - read) kept) (m.place - read) (m.done - read) ≡ waiting_in limit marked m.place m.done =
-    ap (λ (x : List ℕ). waiting_in limit x (m.place - read) (m.done - read)) back
-    ∙ waiting-drop limit marked m.place m.done read read_mark in
-    let rest : drop (m.done - read) (take (m.size - read) kept) ≡ drop m.done marked = ap (drop (m.done - read)) back
-    ∙ drop-drop (m.done - read) read marked ∙ ap (λ (n : ℕ). drop n marked) done_from in
+    let now = stand-drop read (stand-take cut (stand h) done_cut) read_place in
+    let then = stand-drop read (stand before) read_mark in
+    let tails = broken_tail s.start (drop (s.done - read) (drop read (take cut bytes))) (drop s.done bytes) broken in
     record {
-      holds = subst (λ (x : List ℕ). Holds limit x (place - read) (done - read) first start) (sym kept_is) held;
-      marked =
-          subst (λ (x : List ℕ). Holds limit x (m.place - read) (m.done - read) m.first m.start) (sym back)
-          (holds-drop limit marked m.place m.done read m.first m.start before read_mark);
-      same =
-          ap (λ (w : List (List ℕ)). all_of limit w (tail_by start (drop (done - read) kept))
-          (before_by limit kept (Some (moved m read)))) waiting
-          ∙ ap (λ (t : Tail). all_of limit (waiting_in limit bytes place done) t (before_by limit kept (Some (moved m read))))
-          (broken_tail start (drop (done - read) kept) (drop done bytes) broken)
-          ∙ ap (λ (w : List (List ℕ)). all_of limit (waiting_in limit bytes place done) (tail_by start (drop done bytes))
-          (some_before w (tail_by m.start (drop (m.done - read) (take (m.size - read) kept))))) waited
-          ∙ ap (λ (l : List ℕ). all_of limit (waiting_in limit bytes place done) (tail_by start (drop done bytes))
-          (some_before (waiting_in limit marked m.place m.done) (tail_by m.start l))) rest;
-    }
-
--- What is held after a piece: what the piece leads to, and what the mark goes back to.
-pub record Came (limit : ℕ) (bytes piece more : List ℕ) (place done dropped size now : ℕ) (first start begun next : Start)
-    (left : ℕ) : Type 0 where
-  pub went : Went limit (waiting_in limit bytes place done) start (drop done bytes) piece
-      (waiting_in limit more (place - dropped) now) next left
-      (waiting_in limit (take size more) (place - dropped) (done - dropped)) (drop (done - dropped) (take size more))
-  pub place_within : place - dropped ≤ now
-  pub now_within : now ≤ length more
-  pub whole : AllWhole limit (range more (place - dropped) now)
-  pub first_is : begun ≡ start_of limit (range more (place - dropped) now)
-  pub marked : Holds limit (take size more) (place - dropped) (done - dropped) first start
-  pub left_is : drop now more ≡ drop (length (drop done bytes ++ piece) - left) (drop done bytes ++ piece)
-
--- the part of the next frame that has come, with the piece
-pub rest_with : (bytes piece more : List ℕ) (done dropped : ℕ) → done ≤ length bytes → dropped ≤ done → more ≡ drop dropped bytes ++ piece
-    → drop (done - dropped) more ≡ drop done bytes ++ piece
-rest_with bytes piece more done dropped within first e =
-    let long : length (drop dropped bytes) ≡ length bytes - dropped = length-drop dropped bytes in
-    let inside : done - dropped ≤ length (drop dropped bytes) = omega arith in
-    let there : dropped + (done - dropped) ≡ done = omega arith in
-    ap (drop (done - dropped)) e ∙ drop-append-le (done - dropped) (drop dropped bytes) piece inside
-    ∙ ap (λ (x : List ℕ). x ++ piece) (drop-drop (done - dropped) dropped bytes ∙ ap (λ (n : ℕ). drop n bytes) there)
-
-pub came : (limit : ℕ) (bytes piece more rest : List ℕ) (place done dropped size now : ℕ) (first start given begun next : Start) (left : ℕ)
-    → Holds limit bytes place done first start → is_broken start ≡ false → dropped ≤ place → more ≡ drop dropped bytes ++ piece
-    → rest ≡ drop (done - dropped) more → given ≡ start_of limit rest → begun ≡ first_by first given (ltb left (length rest))
-    → Parts limit rest next left → size ≡ length more - length piece
-    → now ≡ length more - left
-    → Came limit bytes piece more place done dropped size now first start begun next left
-came limit bytes piece more rest place done dropped size now first start given begun next left h whole within more_is rest_is given_is begun_is parts size_is now_is =
-    let held : List ℕ = drop dropped bytes in
-    let after : List ℕ = drop done bytes ++ piece in
-    let ordered : place ≤ done = h.place_within in
-    let inside : done ≤ length bytes = h.done_within in
-    let dropped_done : dropped ≤ done = omega arith in
-    let long : length held ≡ length bytes - dropped = length-drop dropped bytes in
-    let all : length more ≡ length held + length piece = ap length more_is ∙ length-append held piece in
-    let size_held : size ≡ length held = omega arith in
-    let after_is : drop (done - dropped) more ≡ after = rest_with bytes piece more done dropped inside dropped_done more_is in
-    let rest_after : rest ≡ after = rest_is ∙ after_is in
-    let given_after : given ≡ start_of limit after = given_is ∙ ap (start_of limit) rest_after in
-    let parted : Parts limit after next left = subst (λ (x : List ℕ). Parts limit x next left) rest_after parts in
-    let left_within : left ≤ length after = parted.within in
-    let after_long : length after ≡ length more - (done - dropped) = sym (ap length after_is) ∙ length-drop (done - dropped) more in
-    let done_now : done - dropped ≤ now = omega arith in
-    let place_done : place - dropped ≤ done - dropped = omega arith in
-    let place_now : place - dropped ≤ now = omega arith in
-    let done_held : done - dropped ≤ length held = omega arith in
-    let now_more : now ≤ length more = omega arith in
-    let count : now - (done - dropped) ≡ length after - left = omega arith in
-    let waited : range more (place - dropped) (done - dropped) ≡ range bytes place done =
-    ap (λ (x : List ℕ). range x (place - dropped) (done - dropped)) more_is
-    ∙ range-append held piece (place - dropped) (done - dropped) place_done done_held
-    ∙ range-drop bytes dropped place done within in
-    let now_from : now ≡ (done - dropped) + (length after - left) = omega arith in
-    let new : range more (done - dropped) now ≡ take (length after - left) after =
-    ap (λ (n : ℕ). take n (drop (done - dropped) more)) count ∙ ap (take (length after - left)) after_is in
-    let ranges : range more (place - dropped) now ≡ range bytes place done ++ take (length after - left) after =
-    range-on more (place - dropped) (done - dropped) now place_done done_now
-    ∙ ap (λ (x : List ℕ). x ++ range more (done - dropped) now) waited ∙ ap (λ (x : List ℕ). range bytes place done ++ x) new in
-    let back : take size more ≡ held = prefix_here held piece more size more_is size_held in
-    let marked = holds-drop limit bytes place done dropped first start h within in
-    let there : dropped + (done - dropped) ≡ done = omega arith in
-    record {
-      went = record {
-        bodies = (reading_of limit (take (length after - left) after)).bodies;
-        whole = whole;
-        starts = parted.starts;
-        reads = parts_read limit after next left parted;
-        added =
-            ap (λ (x : List ℕ). (reading_of limit x).bodies) ranges
-            ∙ bodies_with limit (range bytes place done) (take (length after - left) after) h.whole;
-        waited_is =
-            ap (λ (x : List ℕ). waiting_in limit x (place - dropped) (done - dropped)) back
-            ∙ ap (λ (x : List ℕ). (reading_of limit x).bodies) (range-drop bytes dropped place done within);
-        prefix_is = ap (drop (done - dropped)) back ∙ drop-drop (done - dropped) dropped bytes ∙ ap (λ (n : ℕ). drop n bytes) there;
+      fits = record {
+        holds = held now h.whole h.first_is (starts_broken broken h.starts);
+        mark_holds = rw back (held then before.whole before.first_is before.starts);
       };
-      place_within = place_now;
-      now_within = now_more;
-      whole =
-          subst (AllWhole limit) (sym ranges)
-          (whole_with limit (range bytes place done) (take (length after - left) after) h.whole parted.whole);
-      first_is =
-          begun_is ∙ ap (λ (x : List ℕ). first_by first given (ltb left (length x))) rest_after
-          ∙ first_now limit (range bytes place done) after first given next left h.whole h.first_is given_after parted
-          ∙ sym (ap (start_of limit) ranges);
-      marked = subst (λ (x : List ℕ). Holds limit x (place - dropped) (done - dropped) first start) (sym back) marked;
-      left_is =
-          ap (λ (n : ℕ). drop n more) now_from ∙ sym (drop-drop (length after - left) (done - dropped) more)
-          ∙ ap (drop (length after - left)) after_is;
+      same = rw (back, waiting_is s.limit now, waiting_is s.limit then, rest_is then, tails) refl;
     }
+
+-- a piece after a fault
+pub faulty : (s : Inside) (piece : List ℕ) → HoldsIn s → IsSome (fault_of (tail_by s.start (drop s.done s.bytes.items)))
+    → Holds s.limit (take s.done s.bytes.items) s.place s.done s.first s.start
+    × (held_by s.limit s.bytes.items s.place s.done s.start
+    (Some (record { place = s.place; done = s.done; size = s.done; first = s.first; start = s.start }))
+    ≡ fed (held_by s.limit s.bytes.items s.place s.done s.start s.mark) piece)
+faulty s piece h fault =
+    let broken = broken_by s.start (drop s.done s.bytes.items) fault in
+    let cut = stand-take s.done (stand h) (let e : s.done ≤ s.done = omega arith in e) in (
+      held cut h.whole h.first_is (starts_broken broken h.starts),
+      grind (arith, broken_is s.start broken, waiting_is s.limit cut, append-nil),
+    )
+
+-- What is held after a piece, and what the mark goes back to: it fits, and is the value that the piece leads to.
+pub record Came (s : Inside) (piece more : List ℕ) (dropped size now : ℕ) (begun next : Start) (mark : Mark) : Type 0 where
+  pub fits : Fits s.limit more (s.place - dropped) now begun next (Some mark)
+  pub fed_is : held_by s.limit more (s.place - dropped) now next (Some mark)
+      ≡ fed (held_by s.limit s.bytes.items s.place s.done s.start s.mark) piece
+
+-- where the last piece began
+abbrev pub marked : Inside → ℕ → ℕ → Mark
+marked s dropped size =
+    record { place = s.place - dropped; done = s.done - dropped; size = size; first = s.first; start = s.start }
+
+pub came : (s : Inside) (piece more rest : List ℕ) (dropped size now left : ℕ) (given begun next : Start) → HoldsIn s
+    → is_broken s.start ≡ false → dropped ≤ s.place → more ≡ drop dropped s.bytes.items ++ piece → rest ≡ drop (s.done - dropped) more
+    → given ≡ start_of s.limit rest → begun ≡ first_by s.first given (ltb left (length rest)) → Parts s.limit rest next left
+    → size ≡ length more - length piece → now ≡ length more - left → Came s piece more dropped size now begun next (marked s dropped size)
+came s piece more rest dropped size now left given begun next h unbroken within more_is rest_from given_is begun_is p size_is now_is =
+    let w : List ℕ = range s.bytes.items s.place s.done in
+    let n : ℕ = length rest - left in
+    let f : List ℕ = take n rest in
+    let t : List ℕ = drop n rest in
+    let was = stand-drop dropped (stand h) within in
+    let grown = stand-append piece more was more_is in
+    let joined : f ++ t ≡ rest = take-append-drop n rest in
+    let parted = sym (rest_from ∙ rest_is grown) ∙ sym joined in
+    let last : length t ≡ left = length-drop n rest ∙ (let e : length rest - n ≡ left = omega (arith, p.within) in e) in
+    let here = stand-grow f t now grown parted (omega (arith, last)) in
+    let old = ap length more_is ∙ length-append (drop dropped s.bytes.items) piece in
+    let cut : take size more ≡ drop dropped s.bytes.items = ap (take size) more_is ∙ take_at _ piece size (omega (arith, old)) in
+    let reads = ap (reading_of s.limit) parted ∙ whole_read s.limit f t next p.whole p.starts p.no_more in
+    let begins = first_now s.limit w f t s.first given h.whole h.first_is p.whole (given_is ∙ ap (start_of s.limit) (sym joined)) in
+    let bodies = bodies_with s.limit w f h.whole in
+    let partial = unbroken_tail s.start (drop s.done s.bytes.items) unbroken in
+    record {
+      fits = record {
+        holds = held here (whole_with s.limit w f h.whole p.whole) (begun_is ∙ rw (joined, last) at begins) (starts_known p.starts);
+        mark_holds = rw cut (held was h.whole h.first_is h.starts);
+      };
+      fed_is = rw (cut, waiting_is s.limit here, rest_is here, waiting_is s.limit was, rest_is was, bodies, partial, reads) refl;
+    }
+
+pub feeds_fault : (old : Unframed) (piece : List ℕ) (new : Unframed) (fault : FrameError) → new ≡ fed old piece
+    → fault_of new.tail ≡ Some fault → (fault ≡ NoMemory → ⊥) → Feeds {T = Unit {0}} old piece (Err fault) new
+feeds_fault old piece new fault e f m = grind arith
 
 -- the first body that waits, and the frames after it
-pub record First (limit : ℕ) (bytes : List ℕ) (place done : ℕ) (body after : List ℕ) (place_now : ℕ) : Type 0 where
-  pub body_is : Some body ≡ first_of (waiting_in limit bytes place done)
-  pub others : waiting_in limit bytes place_now done ≡ others_of (waiting_in limit bytes place done)
-  pub place_within : place_now ≤ done
-  pub whole : AllWhole limit (range bytes place_now done)
-  pub rest : range bytes place_now done ≡ after
+pub record First (s : Inside) (body after : List ℕ) : Type 0 where
+  pub body_is : Some body ≡ first_of (waiting_in s.limit s.bytes.items s.place s.done)
+  pub lent : held_by s.limit s.bytes.items (s.done - length after) s.done s.start s.mark
+      ≡ lent_from (held_by s.limit s.bytes.items s.place s.done s.start s.mark)
+  pub holds : (first : Start) → first ≡ start_of s.limit after
+      → Holds s.limit s.bytes.items (s.done - length after) s.done first s.start
 
-pub first_waits : (limit : ℕ) (bytes waiting body after : List ℕ) (place done : ℕ) (first start : Start)
-    → Holds limit bytes place done first start
-    → waiting ≡ range bytes place done → parts_of first waiting ≡ Some (body, after)
-    → First limit bytes place done body after (done - length after)
-first_waits limit bytes waiting body after place done first start h waiting_is parts =
-    let starts : first ≡ start_of limit waiting = h.first_is ∙ ap (start_of limit) (sym waiting_is) in
-    let one = reading_some limit waiting body after first starts parts in
-    let ordered : place ≤ done = h.place_within in
-    let inside : done ≤ length bytes = h.done_within in
-    let from : length (drop place bytes) ≡ length bytes - place = length-drop place bytes in
-    let fits : done - place ≤ length (drop place bytes) = omega arith in
-    let long : length waiting ≡ done - place = ap length waiting_is ∙ length-take-le (done - place) (drop place bytes) fits in
-    let size_is : one.size + length after ≡ length waiting = one.size_is in
-    let there : place + one.size ≡ done - length after = omega arith in
-    let count : done - place ≡ one.size + (done - (done - length after)) = omega arith in
-    let rest : range bytes (done - length after) done ≡ after =
-    ap (λ (n : ℕ). take (done - (done - length after)) (drop n bytes)) (sym there)
-    ∙ ap (take (done - (done - length after))) (sym (drop-drop one.size place bytes))
-    ∙ sym (drop-take one.size (done - (done - length after)) (drop place bytes))
-    ∙ ap (λ (n : ℕ). drop one.size (take n (drop place bytes))) (sym count)
-    ∙ ap (drop one.size) (sym waiting_is) ∙ sym one.after_is in
-    let reads : reading_of limit (range bytes place done) ≡ with_body body (reading_of limit after) =
-    ap (reading_of limit) (sym waiting_is) ∙ one.reads in
+pub first_waits : (s : Inside) (body after : List ℕ) → HoldsIn s
+    → parts_of s.first (range s.bytes.items s.place s.done) ≡ some_of body after → First s body after
+first_waits s body after h parts =
+    let f = first_frame s.limit (range s.bytes.items s.place s.done) body after s.first h.first_is parts in
+    let reads = ap (reading_of s.limit) f.1 ∙ frame_first s.limit f.0 body after f.2 in
+    let now = stand-pass f.0 after (stand h) f.1 in
     record {
       body_is = sym (ap (λ (r : Reading). first_of r.bodies) reads);
-      others =
-          ap (λ (x : List ℕ). (reading_of limit x).bodies) rest
-          ∙ sym (ap (λ (r : Reading). others_of r.bodies) reads);
-      place_within = omega arith;
-      whole =
-          ap (λ (x : List ℕ). (reading_of limit x).tail) rest
-          ∙ sym (ap (λ (r : Reading). r.tail) reads) ∙ h.whole;
-      rest = rest;
+      lent = rw (waiting_is s.limit now, sym (ap (λ (r : Reading). others_of r.bodies) reads)) refl;
+      holds = λ next e. held now (sym (ap (λ (r : Reading). r.tail) reads) ∙ h.whole) e h.starts;
     }
 
-pub none_waits : (limit : ℕ) (bytes waiting : List ℕ) (place done : ℕ) (first start : Start) → Holds limit bytes place done first start
-    → waiting ≡ range bytes place done → parts_of first waiting ≡ None → waiting_in limit bytes place done ≡ []
-none_waits limit bytes waiting place done first start h waiting_is parts =
-    let starts : first ≡ start_of limit waiting = h.first_is ∙ ap (start_of limit) (sym waiting_is) in
-    ap (λ (x : List ℕ). (reading_of limit x).bodies) (sym waiting_is)
-    ∙ ap (λ (r : Reading). r.bodies) (reading_none limit waiting first starts parts)
-
--- what is held, with other bodies that wait
-abbrev waiting_with : ℕ → List (List ℕ) → List ℕ → ℕ → Start → Option Mark → Unframed
-waiting_with limit bodies bytes done start mark =
-    record { limit = limit; waiting = bodies; tail = tail_by start (drop done bytes); before = before_by limit bytes mark }
-
-pub lent_on : (old : Unframed) (limit : ℕ) (bytes : List ℕ) (place done place_now : ℕ) (start : Start) (mark : Option Mark)
-    → held_by limit bytes place done start mark ≡ old
-    → waiting_in limit bytes place_now done ≡ others_of (waiting_in limit bytes place done)
-    → held_by limit bytes place_now done start mark ≡ lent_from old
-lent_on old limit bytes place done place_now start mark was others =
-    ap (λ (w : List (List ℕ)). waiting_with limit w bytes done start mark) others ∙ ap lent_from was
-
-pub lent_none : (old : Unframed) (limit : ℕ) (bytes : List ℕ) (place done : ℕ) (start : Start) (mark : Option Mark)
-    → held_by limit bytes place done start mark ≡ old → waiting_in limit bytes place done ≡ []
-    → held_by limit bytes place done start mark ≡ lent_from old
-lent_none old limit bytes place done start mark was none =
-    lent_on old limit bytes place done place start mark was (none ∙ sym (ap others_of none))
-
--- what is held then, in the form that the code has it
-pub came_holds : (limit : ℕ) (bytes piece more : List ℕ) (place done dropped size now : ℕ) (first start begun next : Start) (left : ℕ)
-    → Came limit bytes piece more place done dropped size now first start begun next left
-    → Holds limit more (place - dropped) now begun next
-came_holds limit bytes piece more place done dropped size now first start begun next left it = record {
-  place_within = it.place_within;
-  done_within = it.now_within;
-  whole = it.whole;
-  first_is = it.first_is;
-  starts = starts_known limit next (drop now more) (it.went.starts ∙ ap (start_of limit) (sym it.left_is));
-}
+-- or none
+pub none_waits : (s : Inside) → HoldsIn s → parts_of s.first (range s.bytes.items s.place s.done) ≡ None
+    → (None ≡ first_of (waiting_in s.limit s.bytes.items s.place s.done))
+    × (held_by s.limit s.bytes.items s.place s.done s.start s.mark
+    ≡ lent_from (held_by s.limit s.bytes.items s.place s.done s.start s.mark))
+none_waits s h parts =
+    let none : waiting_in s.limit s.bytes.items s.place s.done ≡ [] = ap (λ (r : Reading). r.bodies)
+    (reading_none s.limit (range s.bytes.items s.place s.done) s.first h.first_is parts) in (rw none refl, rw none refl)

@@ -1,5 +1,5 @@
 -- How many moves are recorded after each event.
-use Rattle.history_laws.proofs.Common.{[], agrees, answer_to, Answered, Answering, answering_debuggee, ap, arith, asks_to_give_up, Beat, beat_by, beat_of, beats, becomes_program, Beginning, Bool, by_move, by_success, by_turn, BySuccess, ByTurn, Command, concluded, cond, Connect, count_after, count_answered, count_moved, count_of, count_sliced, Cut, Debugged, Debuggee, departed, DropConnection, Effect, ended, Ended, ending_of, ends, EndsARun, enough, entered, eqb, EventsAreCounted, exit_events, exits, false, fault_at, first_run, FULL, given_of, gives_up, goes, goes_unless, Happened, histories, Hold, if_keeps, IfOk, IfSome, intent_of, is_at_limit, is_ended, is_runnable_by, is_running, is_success, is_to_end, is_to_stand, LAST_CONNECTION, leb, left, length, length-take, Link, List, ltb, makes_move, Mark, marked, marked_by, MatchOption, min, MOST_PENDING, MOST_PIECE, move_leaves, moved, moves_by, next_by, next_tick, None, not, Now, of_answer, Ok, on, on_program, Option, Outcome, outcome_at, Pending, performed, Program, program_of, Reached, recorded_of, Recv, refl, Refusal, restarted, Result, resumed, Run, Sent, Session, Slice, SliceEnd, Slicing, Some, stays, steps, stop_event, stopped, Stopped, stops, subst, suc, sym, take, telling, telling_program, tells, tells_only, Terms, the_tick, Tick, told, true, Turn, turns_back, Wanted, Went, Whole, Why, why_marked, with_hart, with_list, written, zero, ℕ, ℤ, ◌&&◌, ◌+◌, ◌-◌, ◌||◌, ◌∙◌, ◌∷◌, ◌≡◌, ◌≤◌}
+use Rattle.history_laws.proofs.Common.{[], agrees, answer_to, Answered, Answering, answering_debuggee, ap, arith, asks_to_give_up, Beat, beat_of, beats, Beginning, Bool, by_success, by_turn, BySuccess, ByTurn, Command, concluded, cond, count_after, count_answered, count_moved, count_of, count_sliced, Cut, Debugged, Debuggee, departed, Effect, ended, Ended, ending_of, ends, EndsARun, enough, entered, EventsAreCounted, false, fault_at, first_run, given_of, gives_up, goes, Happened, histories, if_keeps, IfOk, IfSome, intent_of, is_ended, is_running, is_success, is_to_end, is_to_stand, left, length, length-take, List, ltb, makes_move, Mark, marked, marked_by, MatchOption, min, move_leaves, moved, next_by, next_tick, None, not, Now, of_answer, Ok, on_program, Option, Outcome, Pending, performed, Program, program_of, Reached, recorded_of, refl, Refusal, restarted, Result, resumed, Run, Session, Slice, SliceEnd, Slicing, Some, stays, steps, stopped, Stopped, subst, suc, sym, take, telling, telling_program, Terms, the_tick, Tick, told, true, Turn, turns_back, Wanted, Went, Whole, with_hart, with_list, written, zero, ℕ, ◌&&◌, ◌+◌, ◌-◌, ◌||◌, ◌∙◌, ◌∷◌, ◌≡◌, ◌≤◌}
 use Rattle.std.proofs.lemmas.Bool.{or_left, or_right}
 use Rattle.answers.proofs.ProperValues.{writings_fit}
 use Rattle.answers.specs.Answers.{sets_breakpoints}
@@ -8,14 +8,15 @@ use Rattle.answers.specs.WriteMemory.{write_memory}
 use Rattle.answers.specs.declared.write_memory.Writing.{Writing}
 use Rattle.debuggee.specs.declared.run.Mark.TheVariants as mark
 use Rattle.debuggee.specs.declared.run.Run.TheVariants as run
-use Rattle.debuggee.specs.declared.run.Why.TheVariants as why
 use Rattle.history_laws.proofs.Counted.{are_given_up, ticks_are_counted}
 use Rattle.history_laws.proofs.Recorded.{every_past_is_a_run}
 use Rattle.protocol.specs.declared.command.Command.TheVariants as command
 use Rattle.protocol.specs.declared.write_memory.WriteMemoryArguments.{WriteMemoryArguments}
+use Rattle.session.specs.Acts.{Accept, Open}
 use Rattle.session.specs.Outcomes.{Outcome as Does}
-use Rattle.session.specs.declared.event.SliceEnd.TheVariants as ending
-use Rattle.stepping.specs.declared.tick.Reason.TheVariants as met
+use Rattle.session.specs.declared.event.Event.{Event}
+use Rattle.session_laws.proofs.Cases.{ByBeat, by_effect, by_program}
+use Rattle.session_laws.proofs.Joined.{exits_program, halts_program, NoneBecome, still_holds}
 
 -- ---- what is done to a program
 
@@ -194,25 +195,6 @@ unmoved start made q program is h =
     subst (Sliced start (made + 0)) (sym is)
     (subst (λ (n : ℕ). Has start n q) (let same : made ≡ made + 0 = omega arith in same) h)
 
-stops_sliced : (start : Debugged) (made : ℕ) (s : Session) (p : Program) (w : Why) → Has start made p
-    → SlicedBy start made s (stops s.now p w)
-unfolding SlicedBy
-stops_sliced start made s p w h =
-    unmoved start made (stopped w p) _ (becomes_program s.now (stopped w p) (tells s.now (stop_event w [] ∷ [])) s
-    (tells_only s.now (stop_event w [] ∷ []))) h
-
-exits_sliced : (start : Debugged) (made : ℕ) (s : Session) (p : Program) (code : ℤ) → Has start made p
-    → SlicedBy start made s (record { acts = exits s.now p code; moved = 0; ending = Some ending.Ended })
-unfolding SlicedBy
-exits_sliced start made s p code h =
-    unmoved start made (ended (Some code) p) _ (becomes_program s.now (ended (Some code) p) (tells s.now (exit_events code)) s
-    (tells_only s.now (exit_events code))) h
-
-idle_sliced : (start : Debugged) (made : ℕ) (s : Session) (p : Program) (e : SliceEnd) → program_of s ≡ Some p → Has start made p
-    → SlicedBy start made s (ends e)
-unfolding SlicedBy
-idle_sliced start made s p e is h = unmoved start made p (program_of s) is h
-
 -- one move more
 one_more : (back : Bool) (made n : ℕ) → cond back (count_moved back made n - 1) (min (count_moved back made n + 1) 65536)
     ≡ count_moved back (made + 1) n
@@ -237,25 +219,6 @@ move_sliced start made s p due goes h = (
   back : Bool
   back = turns_back p.machine.goal
 
-go_sliced : (start : Debugged) (made : ℕ) (s : Session) (p : Program) (more : Bool) → program_of s ≡ Some p → Has start made p
-    → SlicedBy start made s (goes s.now p more)
-unfolding SlicedBy
-go_sliced start made s p more is h =
-    if_keeps (SlicedBy start made s) p.machine.check_due _ _ (λ _. unmoved start made (entered p) _ refl h)
-    (λ due. if_keeps (SlicedBy start made s) (not more) _ _ (λ _. idle_sliced start made s p ending.Spent is h)
-    (λ _. if_keeps (SlicedBy start made s) (is_at_limit s.now p) _ _ (λ _. stops_sliced start made s p why.Limit h)
-    (λ _. moves due))) where
-      moves : p.machine.check_due ≡ false → SlicedBy start made s (moves_by s.now p (next_tick p).outcome)
-      moves due =
-          by_move (λ o b. (next_tick p).outcome ≡ o → SlicedBy start made s b) s.now p (next_tick p).outcome
-          (λ o goes e. move_sliced start made s p due (ap stays e ∙ goes) h)
-          (λ cause _. stops_sliced start made s p (why.Met (met.Exception cause)) h) (λ code _. exits_sliced start made s p code h) refl
-
-unless_sliced : (start : Debugged) (made : ℕ) (s : Session) (p : Program) (m : Option Mark) (more : Bool) → program_of s ≡ Some p
-    → Has start made p → SlicedBy start made s (goes_unless m s.now p more)
-unless_sliced start made s p None more is h = go_sliced start made s p more is h
-unless_sliced start made s p (Some m) more is h = stops_sliced start made s p (why_marked m) h
-
 tick_sliced : (start : Debugged) (made : ℕ) (s : Session) (p : Program) (tick : Tick) → Has start made p
     → SlicedBy start made s (record { acts = telling s.now p tick; moved = 0; ending = ending_of tick.outcome })
 unfolding SlicedBy
@@ -266,19 +229,24 @@ tick_sliced start made s p tick h =
       by (Stopped reason) = h
       by (Ended code) = h
 
-owed_sliced : (owed : Option Tick) (start : Debugged) (made : ℕ) (s : Session) (p : Program) (more : Bool) → program_of s ≡ Some p
-    → Has start made p → SlicedBy start made s (beat_by owed (histories.see s) p more)
-owed_sliced (Some tick) start made s p more is h = tick_sliced start made s p tick h
-owed_sliced None start made s p more is h =
-    if_keeps (SlicedBy start made s) (not (is_runnable_by s.now.link p.run)) _ _ (λ _. idle_sliced start made s p ending.Idle is h)
-    (λ _. if_keeps (SlicedBy start made s) (ltb FULL (length s.waiting)) _ _ (λ _. idle_sliced start made s p ending.Full is h)
-    (λ _. unless_sliced start made s p p.mark more is h))
+each_sliced : (start : Debugged) (made : ℕ) (s : Session) (p : Program) (more : Bool) → program_of s ≡ Some p → Has start made p
+    → ByBeat (histories.see s) p more (SlicedBy start made s)
+unfolding SlicedBy
+each_sliced start made s p more is h = record {
+  tells = λ tick _. tick_sliced start made s p tick h;
+  ends_for = λ _ _ _. unmoved start made p (program_of s) is h;
+  stops_for = λ w _ _. unmoved start made (stopped w p) _ (halts_program s.now p w [] s) h;
+  exits_with = λ code _ _ _. unmoved start made (ended (Some code) p) _ (exits_program s.now p code s) h;
+  enters = λ _ _ _. unmoved start made (entered p) _ refl h;
+  moves = λ _ _ due _ goes. move_sliced start made s p due goes h;
+}
 
 beat_sliced : (program : Option Program) (start : Debugged) (made : ℕ) (s : Session) (more : Bool) → program_of s ≡ program
     → Sliced start made program → SlicedBy start made s (beat_of program (histories.see s) more)
 unfolding Sliced
 beat_sliced None start made s more is h = absurd h
-beat_sliced (Some p) start made s more is h = owed_sliced p.owed start made s p more is h
+beat_sliced (Some p) start made s more is h =
+    by_program (histories.see s) p more (SlicedBy start made s) (each_sliced start made s p more is h)
 
 -- ---- a slice
 
@@ -326,46 +294,27 @@ slice_counts (Some p) n k s is h =
 
 -- ---- an event
 
-abbrev Stays : Session → Does → Type 0
-Stays s o = recorded_of (program_of (performed histories o.acts s)) ≡ recorded_of (program_of s)
-
-piece_counts : (l : Link) (piece : List ℕ) (s : Session)
-    → Stays (on (Some l) s) (outcome_at (histories.see (on (Some l) s)) (Some l) (Recv piece))
-piece_counts l piece s =
-    let P : Does → Type 0 = Stays (on (Some l) s) in
-    if_keeps P l.is_closing _ _ (λ _. refl)
-    (λ _. if_keeps P (ltb MOST_PIECE (length piece)) _ _ (λ _. refl)
-    (λ _. if_keeps P (leb MOST_PENDING (length s.now.arrivals.pending)) _ _ (λ _. refl)
-    (λ _. if_keeps (λ (t : Session). recorded_of (program_of t) ≡ recorded_of (program_of s)) l.is_closing _ _ (λ _. refl) (λ _. refl))))
-
-connect_counts : (l : Option Link) (s : Session) → Stays (on l s) (outcome_at (histories.see (on l s)) l Connect)
-connect_counts None s = if_keeps (Stays (on None s)) (eqb s.now.connections LAST_CONNECTION) _ _ (λ _. refl) (λ _. refl)
-connect_counts (Some l) s = refl
-
-recv_counts : (l : Option Link) (piece : List ℕ) (s : Session) → Stays (on l s) (outcome_at (histories.see (on l s)) l (Recv piece))
-recv_counts None piece s = refl
-recv_counts (Some l) piece s = piece_counts l piece s
-
-hold_counts : (l : Option Link) (s : Session) → Stays (on l s) (outcome_at (histories.see (on l s)) l Hold)
-hold_counts None s = same_of (marked mark.Hold) (λ p. marked_same p.run mark.Hold p) (program_of s)
-hold_counts (Some l) s = same_of (marked mark.Hold) (λ p. marked_same p.run mark.Hold p) (program_of s)
-
-sent_counts : (l : Option Link) (n : ℕ) (s : Session) → Stays (on l s) (outcome_at (histories.see (on l s)) l (Sent n))
-sent_counts None n s = refl
-sent_counts (Some l) n s = if_keeps (Stays (on (Some l) s)) (ltb (length (on (Some l) s).waiting) n) _ _ (λ _. refl) (λ _. refl)
-
-drop_counts : (l : Option Link) (s : Session) → Stays (on l s) (outcome_at (histories.see (on l s)) l DropConnection)
-drop_counts None s = refl
-drop_counts (Some l) s = same_of left (λ _. refl) (program_of s)
+-- one after which as many are recorded
+other_counts : (e : Event) (s : Session) → IfSome (program_of s) (λ p. EndsARun p.machine) → count_of s (Whole e) ≡ recorded_of (program_of s)
+    → recorded_of (program_of (Effect s e)) ≡ recorded_of (program_of s)
+unfolding NoneBecome
+other_counts e s h = by_effect s (λ e t. count_of s (Whole e) ≡ recorded_of (program_of s) → Same (program_of t)) (record {
+  refuses = λ _ _ _. refl;
+  opens = λ _. still_holds Same (Open ∷ []) s tt refl;
+  accepts = λ piece _. still_holds Same (Accept piece ∷ []) s tt refl;
+  turns = λ file is. turn_counts file s ∙ is;
+  slices = λ _ _. refl;
+  holds = λ _. same_of (marked mark.Hold) (λ p. marked_same p.run mark.Hold p) (program_of s);
+  takes = λ _ _. refl;
+  drops = λ _ _ _. same_of left (λ _. refl) (program_of s);
+}) (λ n is. slice_counts (program_of s) n (enough n) s refl h ∙ is) e where
+  Same : Option Program → Type 0
+  Same program = recorded_of program ≡ recorded_of (program_of s)
 
 event_counts : (s : Session) → IfSome (program_of s) (λ p. EndsARun p.machine) → EventsAreCounted s
-event_counts s h (Whole Connect) = connect_counts s.now.link s
-event_counts s h (Whole (Recv piece)) = recv_counts s.now.link piece s
 event_counts s h (Whole (Turn file)) = turn_counts file s
 event_counts s h (Whole (Slice n)) = slice_counts (program_of s) n (enough n) s refl h
-event_counts s h (Whole Hold) = hold_counts s.now.link s
-event_counts s h (Whole (Sent n)) = sent_counts s.now.link n s
-event_counts s h (Whole DropConnection) = drop_counts s.now.link s
+event_counts s h (Whole e) = other_counts e s h refl
 event_counts s h (Cut n k) = slice_counts (program_of s) n k s refl h
 
 pub events_are_counted : (from : Beginning) (events : List Happened) → EventsAreCounted (Reached from events)

@@ -1,5 +1,5 @@
 -- What a step by a request leaves: the machine after one tick, where a reason of the machine stopped the program.
-use Rattle.history_laws.proofs.Common.{[], answer_to, Answered, answered, answered_by, answered_on, answered_with, answering, Answering, answering_debuggee, ap, arith, Back, Bad, Beat, beat_by, beat_of, beats, becomes_program, Bool, by_move, by_turn, ByTurn, Command, concluded, cond, Connect, Course, course_of, Cut, Debugged, Debuggee, DropConnection, Effect, Ended, ends, enough, false, first_mark, FULL, given_of, goes, goes_unless, Happened, histories, Hold, if_keeps, In, inl, inr, intent_of, is_at_limit, is_runnable_by, is_running, is_success, leaves, leb, led_to, length, Link, List, ltb, makes_move, Mark, marked, marked_by, MOST_PENDING, MOST_PIECE, moved, moves_by, next_by, next_tick, None, not, Now, of_answer, OfProgram, on, on_program, Option, Outcome, outcome_at, owing_by, past_of, Pending, performed, Position, Program, program_of, Reason, Recv, refl, Request, resumed, Retired, Run, Seen, Sent, Session, Slice, SliceEnd, Slicing, Some, stays, StepBack, StepIn, stop_event, stopped, Stopped, stops, subst, suc, success_by, success_of, sym, telling, telling_program, tells, tells_only, Terms, the_tick, Tick, told, true, Turn, Went, Whole, Why, why_marked, zero, ℕ, ℤ, ◌&&◌, ◌∙◌, ◌∷◌, ◌≡◌, ◌≢◌, ◌≤◌, ◌⊎◌}
+use Rattle.history_laws.proofs.Common.{[], answer_to, Answered, answered, answered_by, answered_on, answered_with, answering, Answering, answering_debuggee, ap, arith, Back, Bad, Beat, beat_by, beat_of, beats, Bool, by_turn, ByTurn, Command, concluded, cond, Course, course_of, Cut, Debugged, Debuggee, Effect, Ended, ends, enough, false, first_mark, given_of, Happened, histories, In, inl, inr, intent_of, is_running, is_success, leaves, led_to, length, Link, List, ltb, Mark, marked, marked_by, moved, next_by, next_tick, None, Now, of_answer, OfProgram, on_program, Option, Outcome, outcome_at, owing_by, past_of, Pending, performed, Position, Program, program_of, Reason, refl, Request, resumed, Retired, Run, Seen, Session, Slice, SliceEnd, Slicing, Some, stays, StepBack, StepIn, stopped, Stopped, subst, suc, success_by, success_of, sym, telling, telling_program, Terms, the_tick, Tick, told, true, Turn, Went, Whole, Why, zero, ℕ, ℤ, ◌&&◌, ◌∙◌, ◌∷◌, ◌≡◌, ◌≢◌, ◌≤◌, ◌⊎◌}
 use Rattle.debuggee.specs.declared.run.Mark.TheVariants as mark
 use Rattle.debuggee.specs.declared.run.Run.TheVariants as run
 use Rattle.debuggee.specs.declared.run.Why.TheVariants as why
@@ -10,6 +10,11 @@ use Rattle.queues.specs.declared.pending.Ask.{Ask}
 use Rattle.session.specs.Outcomes.{Outcome as Does}
 use Rattle.session.specs.declared.event.SliceEnd.TheVariants as ending
 use Rattle.session_laws.specs.Retiring.{after_answer, after_move, after_next, and_next, and_retired, asks_to_load, loads, moved_on, retired_after, retired_by, retired_in}
+use Rattle.session.specs.Acts.{Accept}
+use Rattle.session.specs.Effects.{sliced}
+use Rattle.session.specs.declared.event.Event.{Event}
+use Rattle.session_laws.proofs.Cases.{ByBeat, by_effect, by_program, StopsFor}
+use Rattle.session_laws.proofs.Joined.{halts_program, NoneBecome, still_holds}
 use Rattle.stepping.specs.declared.goal.Granularity.{Granularity}
 
 -- ---- where a machine is
@@ -156,14 +161,6 @@ owes_by (Some number) (Stopped reason) logs more = refl
 owes_by None (Ended code) logs more = refl
 owes_by (Some number) (Ended code) logs more = refl
 
-mark_unmet : (m : Mark) (reason : Reason) → why_marked m ≡ why.Met reason → ⊥
-mark_unmet mark.Entry reason e = cc
-mark_unmet mark.Pause reason e = cc
-mark_unmet mark.Hold reason e = cc
-
-limit_unmet : (reason : Reason) → why.Limit ≡ why.Met reason → ⊥
-limit_unmet reason e = cc
-
 module _ (start : Program) (retired : List Retired) (h : Starts start) where
   waits : (now : List Retired) (p : Program) → Waits start retired now p → Way start retired now (Some p)
   unfolding Way
@@ -187,66 +184,40 @@ module _ (start : Program) (retired : List Retired) (h : Starts start) where
   unfolding WayBy
   idle_way now s program e is w = subst (Way start retired now) (sym is) w
 
-  -- something else stops it
-  stop_way : (now : List Retired) (s : Session) (p : Program) (cause : Why) → p.owed ≡ None
-      → ((reason : Reason) → cause ≡ why.Met reason → ⊥) → WayBy now s (stops s.now p cause)
+  -- its move is made, or something else stops it before
+  wait_on : (now : List Retired) (s : Session) (p : Program) (more : Bool) → program_of s ≡ Some p → Waits start retired now p
+      → ByBeat (histories.see s) p more (WayBy now s)
   unfolding WayBy
-  stop_way now s p cause owed unmet =
-      subst (Way start retired now) (sym (becomes_program s.now (stopped cause p) (tells s.now (stop_event cause [] ∷ [])) s
-      (tells_only s.now (stop_event cause [] ∷ []))))
-      (rests now (stopped cause p)
-      (record { owed = owed; cause = cause; stands = refl; made = λ reason e. absurd (unmet reason e) }))
+  wait_on now s p more is w = record {
+    tells = λ tick owed. absurd (let no : None ≡ Some tick = sym w.owed ∙ owed in cc);
+    ends_for = λ e _ _. idle_way now s (Some p) e is (waits now p w);
+    stops_for = λ cause owed why. subst (Way start retired now) (sym (halts_program s.now p cause [] s))
+        (rests now (stopped cause p) (record { owed = owed; cause = cause; stands = refl; made = λ reason e. absurd (unmet cause reason why e) }));
+    exits_with = λ code _ _ e. absurd (never (ap stays e));
+    enters = λ _ _ due. absurd (let no : true ≡ false = sym due ∙ ap (λ (d : Debugged). d.check_due) w.machine ∙ h.due in cc);
+    moves = λ _ _ _ _ _. subst (λ (x : Option Program). Way start retired (after_move x now) (Some (moved p))) (sym is)
+        (owes (moved_on p.machine now) (moved p) (record {
+          runs = w.runs;
+          owed = owed;
+          machine = ap (λ (d : Debugged). (the_tick d).after) w.machine;
+          more = ap (λ (d : Debugged). moved_on d now) w.machine ∙ ap (moved_on start.machine) w.same;
+        }));
+  } where
+    same : next_tick p ≡ next_tick start
+    same = ap (λ (d : Debugged). (the_tick d).tick) w.machine
 
-  move_way : (now : List Retired) (s : Session) (p : Program) → program_of s ≡ Some p → Waits start retired now p
-      → WayBy now s (moves_by s.now p (next_tick p).outcome)
-  unfolding WayBy
-  move_way now s p is w =
-      by_move (λ o b. (next_tick p).outcome ≡ o → WayBy now s b) s.now p (next_tick p).outcome (λ o _ _. made)
-      (λ cause e. absurd (let no : true ≡ false = sym (ap stays e) ∙ stay in cc))
-      (λ code e. absurd (let no : true ≡ false = sym (ap stays e) ∙ stay in cc)) refl where
-        same : next_tick p ≡ next_tick start
-        same = ap (λ (d : Debugged). (the_tick d).tick) w.machine
+    never : stays (next_tick p).outcome ≡ true → ⊥
+    never e = let no : true ≡ false = sym e ∙ ap (λ (t : Tick). stays t.outcome) same ∙ h.goes in cc
 
-        stay : stays (next_tick p).outcome ≡ false
-        stay = ap (λ (t : Tick). stays t.outcome) same ∙ h.goes
+    unmet : (cause : Why) (reason : Reason) → StopsFor p cause → cause ≡ why.Met reason → ⊥
+    unmet (why.Met other) reason met e = never (ap stays met.1 ∙ met.2)
+    unmet _ reason why e = cc
 
-        owed : (moved p).owed ≡ Some (next_tick start)
-        owed =
-            owes_by (next_tick p).printed (next_tick p).outcome (moved p).machine.lists.logs
-            (λ e. h.tells (sym (ap (λ (t : Tick). t.outcome) same) ∙ e))
-            ∙ ap (λ (t : Tick). let o : Option Tick = Some t in o) same
-
-        made : WayBy now s (makes_move s.now p)
-        made =
-            subst (λ (x : Option Program). Way start retired (after_move x now) (Some (moved p))) (sym is)
-            (owes (moved_on p.machine now) (moved p) (record {
-              runs = w.runs;
-              owed = owed;
-              machine = ap (λ (d : Debugged). (the_tick d).after) w.machine;
-              more = ap (λ (d : Debugged). moved_on d now) w.machine ∙ ap (moved_on start.machine) w.same;
-            }))
-
-  go_way : (now : List Retired) (s : Session) (p : Program) (more : Bool) → program_of s ≡ Some p → Waits start retired now p
-      → WayBy now s (goes s.now p more)
-  go_way now s p more is w =
-      if_keeps (WayBy now s) p.machine.check_due _ _
-      (λ due. absurd (let no : true ≡ false = sym due ∙ ap (λ (d : Debugged). d.check_due) w.machine ∙ h.due in cc))
-      (λ _. if_keeps (WayBy now s) (not more) _ _ (λ _. idle_way now s (Some p) ending.Spent is (waits now p w))
-      (λ _. if_keeps (WayBy now s) (is_at_limit s.now p) _ _ (λ _. stop_way now s p why.Limit w.owed limit_unmet)
-      (λ _. move_way now s p is w)))
-
-  unless_way : (now : List Retired) (s : Session) (p : Program) (m : Option Mark) (more : Bool) → program_of s ≡ Some p
-      → Waits start retired now p → WayBy now s (goes_unless m s.now p more)
-  unless_way now s p None more is w = go_way now s p more is w
-  unless_way now s p (Some m) more is w = stop_way now s p (why_marked m) w.owed (mark_unmet m)
-
-  wait_way : (now : List Retired) (s : Session) (p : Program) (more : Bool) → program_of s ≡ Some p → Waits start retired now p
-      → WayBy now s (beat_by p.owed (histories.see s) p more)
-  wait_way now s p more is w =
-      subst (λ (o : Option Tick). WayBy now s (beat_by o (histories.see s) p more)) (sym w.owed)
-      (if_keeps (WayBy now s) (not (is_runnable_by s.now.link p.run)) _ _ (λ _. idle_way now s (Some p) ending.Idle is (waits now p w))
-      (λ _. if_keeps (WayBy now s) (ltb FULL (length s.waiting)) _ _
-      (λ _. idle_way now s (Some p) ending.Full is (waits now p w)) (λ _. unless_way now s p p.mark more is w)))
+    owed : (moved p).owed ≡ Some (next_tick start)
+    owed =
+        owes_by (next_tick p).printed (next_tick p).outcome (moved p).machine.lists.logs
+        (λ e. h.tells (sym (ap (λ (t : Tick). t.outcome) same) ∙ e))
+        ∙ ap (λ (t : Tick). let o : Option Tick = Some t in o) same
 
   -- what is owed is told
   tell_way : (now : List Retired) (s : Session) (p : Program) → Owes start retired now p
@@ -282,7 +253,7 @@ module _ (start : Program) (retired : List Retired) (h : Starts start) where
   beat_way None now s more is (inl w) = absurd w
   beat_way None now s more is (inr (inl w)) = absurd w
   beat_way None now s more is (inr (inr w)) = absurd w
-  beat_way (Some p) now s more is (inl w) = wait_way now s p more is w
+  beat_way (Some p) now s more is (inl w) = by_program (histories.see s) p more (WayBy now s) (wait_on now s p more is w)
   beat_way (Some p) now s more is (inr (inl w)) = owe_way now s p more w
   beat_way (Some p) now s more is (inr (inr w)) = rest_way now s p more is w
 
@@ -320,34 +291,6 @@ module _ (start : Program) (retired : List Retired) (h : Starts start) where
   hold_way None now w = w
   hold_way (Some p) now w = marked_way mark.Hold now p w
 
-  abbrev Leaves : List Retired → Session → Does → Type 0
-  Leaves now s o = Way start retired now (program_of (performed histories o.acts s))
-
-  piece_way : (l : Link) (piece : List ℕ) (now : List Retired) (s : Session) → Way start retired now (program_of s)
-      → Leaves now (on (Some l) s) (outcome_at (histories.see (on (Some l) s)) (Some l) (Recv piece))
-  piece_way l piece now s w =
-      let P : Does → Type 0 = Leaves now (on (Some l) s) in
-      if_keeps P l.is_closing _ _ (λ _. w)
-      (λ _. if_keeps P (ltb MOST_PIECE (length piece)) _ _ (λ _. w)
-      (λ _. if_keeps P (leb MOST_PENDING (length s.now.arrivals.pending)) _ _ (λ _. w)
-      (λ _. if_keeps (λ (t : Session). Way start retired now (program_of t)) l.is_closing _ _ (λ _. w) (λ _. w))))
-
-  recv_way : (l : Option Link) (piece : List ℕ) (now : List Retired) (s : Session) → Way start retired now (program_of s)
-      → Leaves now (on l s) (outcome_at (histories.see (on l s)) l (Recv piece))
-  recv_way None piece now s w = w
-  recv_way (Some l) piece now s w = piece_way l piece now s w
-
-  held_way : (l : Option Link) (now : List Retired) (s : Session) → Way start retired now (program_of s)
-      → Leaves now (on l s) (outcome_at (histories.see (on l s)) l Hold)
-  held_way None now s w = hold_way (program_of s) now w
-  held_way (Some l) now s w = hold_way (program_of s) now w
-
-  sent_way : (l : Option Link) (n : ℕ) (now : List Retired) (s : Session) → Way start retired now (program_of s)
-      → Leaves now (on l s) (outcome_at (histories.see (on l s)) l (Sent n))
-  sent_way None n now s w = w
-  sent_way (Some l) n now s w =
-      if_keeps (Leaves now (on (Some l) s)) (ltb (length (on (Some l) s).waiting) n) _ _ (λ _. w) (λ _. w)
-
   -- it owes what it owes
   tells_way : (now : List Retired) (s : Session) (p : Program) (tick : Tick) → p.owed ≡ Some tick → Way start retired now (Some p)
       → Way start retired now (program_of (performed histories (telling s.now p tick) s))
@@ -376,15 +319,26 @@ module _ (start : Program) (retired : List Retired) (h : Starts start) where
         (sym (ap (λ (b : Debuggee). b.program) (answering_debuggee (answer_to s.now l.terms file q) s) ∙ quiet.1)) w);
   }) s.now.link
 
+  -- an event after which as much has retired
+  other_way : (e : Event) (now : List Retired) (s : Session) → Way start retired now (program_of s) → IsQuiet s (Whole e)
+      → and_retired s e now ≡ now → Way start retired now (program_of (Effect s e))
+  unfolding NoneBecome
+  other_way e now s w = by_effect s (λ e t. IsQuiet s (Whole e) → and_retired s e now ≡ now → Way start retired now (program_of t)) (record {
+    refuses = λ _ _ _ _. w;
+    opens = λ quiet _. absurd quiet;
+    accepts = λ piece _ _. still_holds (Way start retired now) (Accept piece ∷ []) s tt w;
+    turns = λ file quiet is. subst (λ (l : List Retired). Way start retired l (program_of (Effect s (Turn file)))) is (turn_way file now s w quiet);
+    slices = λ _ _ _. w;
+    holds = λ _ _. hold_way (program_of s) now w;
+    takes = λ _ _ _. w;
+    drops = λ _ _ quiet _. absurd quiet;
+  }) (λ n _ is. subst (λ (l : List Retired). Way start retired l (program_of (sliced histories n s).state)) is (slice_way n (enough n) s now w)) e
+
   quiet_way : (x : Happened) (now : List Retired) (s : Session) → IsQuiet s x → Way start retired now (program_of s)
       → Way start retired (retired_by s x now) (program_of (leaves s x))
-  quiet_way (Whole Connect) now s quiet w = absurd quiet
-  quiet_way (Whole (Recv piece)) now s quiet w = recv_way s.now.link piece now s w
   quiet_way (Whole (Turn file)) now s quiet w = turn_way file now s w quiet
   quiet_way (Whole (Slice n)) now s quiet w = slice_way n (enough n) s now w
-  quiet_way (Whole Hold) now s quiet w = held_way s.now.link now s w
-  quiet_way (Whole (Sent n)) now s quiet w = sent_way s.now.link n now s w
-  quiet_way (Whole DropConnection) now s quiet w = absurd quiet
+  quiet_way (Whole e) now s quiet w = other_way e now s w quiet refl
   quiet_way (Cut n k) now s quiet w = slice_way n k s now w
 
   all_way : (quiet : List Happened) (now : List Retired) (s : Session) → AreQuiet quiet s → Way start retired now (program_of s)

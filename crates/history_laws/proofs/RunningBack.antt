@@ -1,12 +1,12 @@
 -- A run back stops where it has to.
-use Rattle.history_laws.proofs.Common.{[], All, ap, Back, back_of, back_outcome, back_tick, Beat, beat_by, beat_of, beats, Bool, by_move, concluded, Course, course_of, Cut, Debugged, Ended, ends, enough, false, FULL, Go, Goal, goes, goes_unless, GoesBack, Happened, histories, Hit, if_keeps, In, inl, inr, is_at_limit, is_runnable_by, is_running, leaves, Leaves, led_to, length, List, looked_at, ltb, makes_move, Mark, move_leaves, moved, moves_by, next_by, next_tick, None, not, OfProgram, Ok, Option, Out, Outcome, outcome_or, Over, owing_by, performed, Position, position_of, Program, program_of, Reason, refl, ReverseGo, Session, Slice, SliceEnd, Slicing, Some, standing_in, stays, stopped, Stopped, subst, suc, sym, telling, telling_program, the_tick, Tick, told, true, turns_back, undone, undone_by, unless_start, Went, Whole, zero, ℕ, ℤ, ◌∙◌, ◌∷◌, ◌≡◌, ◌≤◌, ◌⊎◌}
+use Rattle.history_laws.proofs.Common.{[], All, ap, back_of, back_outcome, back_tick, Beat, beat_by, beat_of, beats, Bool, concluded, Course, course_of, Cut, Debugged, Ended, enough, false, Goal, GoesBack, Happened, histories, Hit, inl, inr, is_running, leaves, Leaves, led_to, length, List, looked_at, ltb, move_leaves, moved, next_by, next_tick, None, OfProgram, Ok, Option, Outcome, outcome_or, owing_by, performed, Position, position_of, Program, program_of, Reason, refl, ReverseGo, Session, Slice, SliceEnd, Slicing, Some, standing_in, stays, stopped, Stopped, subst, suc, sym, telling, telling_program, the_tick, Tick, told, true, turns_back, undone, undone_by, unless_start, Went, Whole, Why, zero, ℕ, ℤ, ◌∙◌, ◌∷◌, ◌≡◌, ◌≤◌, ◌⊎◌}
 use Rattle.std.proofs.lemmas.List.Elements.{All-head, All-tail}
 use Rattle.debuggee.specs.declared.run.Run.TheVariants as run
 use Rattle.debuggee.specs.declared.run.Why.TheVariants as why
-use Rattle.history_laws.proofs.Beating.{never_at_limit, stands_idle}
+use Rattle.history_laws.proofs.Beating.{stands_idle}
 use Rattle.history_laws.proofs.Ticking.{back_goes, looked_course}
 use Rattle.history_laws.specs.RunningBack.{IsTime, RunsBackStopThere, StopsBackThere, stop_at}
-use Rattle.session.specs.declared.event.SliceEnd.TheVariants as ending
+use Rattle.session_laws.proofs.Cases.{ByBeat, by_program, StopsFor}
 use Rattle.stepping.proofs.Reversing.{runs_back_turn}
 use Rattle.stepping.specs.StoppingBack.{TurnsTo, turned_from}
 use Rattle.stepping.specs.declared.tick.Reason.TheVariants as met
@@ -117,57 +117,6 @@ module _ (before after : Debugged) (outcome : Outcome) (goal : before.goal ≡ R
 TurnsBeat : Stop → Session → Beat → Type 0
 TurnsBeat stop s b = Turns stop (program_of (performed histories b.acts s))
 
-idle_turns : (stop : Stop) (s : Session) (p : Program) (e : SliceEnd) → program_of s ≡ Some p → Turns stop (Some p)
-    → TurnsBeat stop s (ends e)
-unfolding TurnsBeat
-idle_turns stop s p e is h = subst (Turns stop) (sym is) h
-
-move_turns : (stop : Stop) (s : Session) (p : Program) → p.owed ≡ None → Turning stop p
-    → TurnsBeat stop s (moves_by s.now p (next_tick p).outcome)
-unfolding TurnsBeat
-move_turns stop s p owed h =
-    by_move (λ o b. (next_tick p).outcome ≡ o → TurnsBeat stop s b) s.now p (next_tick p).outcome (λ o _ _. made)
-    (λ cause e. absurd (let no : true ≡ false = sym (ap stays e) ∙ stay in cc))
-    (λ code e. absurd (let no : true ≡ false = sym (ap stays e) ∙ stay in cc)) refl where
-      x : GoesBack p.machine (Ok (next_tick p)) (moved p).machine
-      x = back_of p.machine (moved p).machine (Ok (next_tick p)) h.due (ap turns_back h.goal) (the_tick p.machine).is
-
-      same : next_tick p ≡ back_tick p.machine
-      same = let e : Ok (next_tick p) ≡ Ok (back_tick p.machine) = x.0 in cc
-
-      stay : stays (next_tick p).outcome ≡ false
-      stay = ap (λ (t : Tick). stays t.outcome) same ∙ back_goes p.machine.goal (undone p.machine)
-
-      left : Leaves p.machine (moved p).machine
-      left = move_leaves p h.due stay
-
-      way : Way stop p.machine None
-      way = subst (Way stop p.machine) owed h.way
-
-      made : TurnsBeat stop s (makes_move s.now p)
-      made = still stop (moved p) (record {
-        runs = h.runs;
-        goal = left.goal ∙ h.goal;
-        due = left.due ∙ h.due;
-        mark = h.mark;
-        way = way_after stop (moved p).machine (next_tick p).printed (next_tick p).outcome (moved p).machine.lists.logs
-            (turned_on p.machine (moved p).machine (next_tick p).outcome h.goal (ap (λ (t : Tick). t.outcome) same) x.1 stop
-            (next_tick p).outcome refl way.0
-            (runs_back_turn p.machine (moved p).machine (next_tick p) h.goal h.due way.1 (the_tick p.machine).is));
-      })
-
-go_turns : (stop : Stop) (s : Session) (p : Program) (more : Bool) → program_of s ≡ Some p → p.owed ≡ None → Turning stop p
-    → TurnsBeat stop s (goes s.now p more)
-go_turns stop s p more is owed h =
-    if_keeps (TurnsBeat stop s) p.machine.check_due _ _ (λ due. absurd (let no : true ≡ false = sym due ∙ h.due in cc))
-    (λ _. if_keeps (TurnsBeat stop s) (not more) _ _ (λ _. idle_turns stop s p ending.Spent is (still stop p h))
-    (λ _. if_keeps (TurnsBeat stop s) (is_at_limit s.now p) _ _ (λ limit. never_at_limit s.now p ReverseGo h.goal refl limit) (λ _. move_turns stop s p owed h)))
-
-unless_turns : (stop : Stop) (s : Session) (p : Program) (more : Bool) → program_of s ≡ Some p → p.owed ≡ None → Turning stop p
-    → TurnsBeat stop s (goes_unless p.mark s.now p more)
-unless_turns stop s p more is owed h =
-    subst (λ (m : Option Mark). TurnsBeat stop s (goes_unless m s.now p more)) (sym h.mark) (go_turns stop s p more is owed h)
-
 -- what is owed is told
 tick_turns : (stop : Stop) (s : Session) (p : Program) (tick : Tick) → p.owed ≡ Some tick → Turning stop p
     → Turns stop (program_of (performed histories (telling s.now p tick) s))
@@ -180,21 +129,53 @@ tick_turns stop s p tick owed h =
           (record { owed = refl; reason = reason; stands = refl; course = way.0; why = way.1 })
       by (Ended code) way = absurd way
 
-owed_turns : (owed : Option Tick) (stop : Stop) (s : Session) (p : Program) (more : Bool) → p.owed ≡ owed → program_of s ≡ Some p
-    → Turning stop p → TurnsBeat stop s (beat_by owed (histories.see s) p more)
+-- its move is made, and undoes one
+turns_on : (stop : Stop) (s : Session) (p : Program) (more : Bool) → program_of s ≡ Some p → Turning stop p
+    → ByBeat (histories.see s) p more (TurnsBeat stop s)
 unfolding TurnsBeat
-owed_turns (Some tick) stop s p more owed is h = tick_turns stop s p tick owed h
-owed_turns None stop s p more owed is h =
-    if_keeps (TurnsBeat stop s) (not (is_runnable_by s.now.link p.run)) _ _ (λ _. idle_turns stop s p ending.Idle is (still stop p h))
-    (λ _. if_keeps (TurnsBeat stop s) (ltb FULL (length s.waiting)) _ _
-    (λ _. idle_turns stop s p ending.Full is (still stop p h)) (λ _. unless_turns stop s p more is owed h))
+turns_on stop s p more is h = record {
+  tells = λ tick owed. tick_turns stop s p tick owed h;
+  ends_for = λ _ _ _. subst (Turns stop) (sym is) (still stop p h);
+  stops_for = λ w _. never_stops w;
+  exits_with = λ code _ _ e. never (ap stays e);
+  enters = λ _ _ due. absurd (let no : true ≡ false = sym due ∙ h.due in cc);
+  moves = λ owed _ _ _ _. let way : Way stop p.machine None = subst (Way stop p.machine) owed h.way in still stop (moved p) (record {
+    runs = h.runs;
+    goal = left.goal ∙ h.goal;
+    due = left.due ∙ h.due;
+    mark = h.mark;
+    way = way_after stop (moved p).machine (next_tick p).printed (next_tick p).outcome (moved p).machine.lists.logs
+        (turned_on p.machine (moved p).machine (next_tick p).outcome h.goal (ap (λ (t : Tick). t.outcome) same) x.1 stop
+        (next_tick p).outcome refl way.0
+        (runs_back_turn p.machine (moved p).machine (next_tick p) h.goal h.due way.1 (the_tick p.machine).is));
+  });
+} where
+  x : GoesBack p.machine (Ok (next_tick p)) (moved p).machine
+  x = back_of p.machine (moved p).machine (Ok (next_tick p)) h.due (ap turns_back h.goal) (the_tick p.machine).is
+
+  same : next_tick p ≡ back_tick p.machine
+  same = let e : Ok (next_tick p) ≡ Ok (back_tick p.machine) = x.0 in cc
+
+  stay : stays (next_tick p).outcome ≡ false
+  stay = ap (λ (t : Tick). stays t.outcome) same ∙ back_goes p.machine.goal (undone p.machine)
+
+  left : Leaves p.machine (moved p).machine
+  left = move_leaves p h.due stay
+
+  never : {A : Type 0} → stays (next_tick p).outcome ≡ true → A
+  never e = absurd (let no : true ≡ false = sym e ∙ stay in cc)
+
+  never_stops : {A : Type 0} (w : Why) → StopsFor p w → A
+  never_stops why.Limit forward = absurd (let no : true ≡ false = sym (ap turns_back h.goal) ∙ forward in cc)
+  never_stops (why.Met reason) met = never (ap stays met.1 ∙ met.2)
+  never_stops w m = absurd (let no : None ≡ Some m.0 = sym h.mark ∙ m.1 in cc)
 
 -- one that stands does nothing
 stood_turns : (stop : Stop) (s : Session) (p : Program) (more : Bool) → program_of s ≡ Some p → Stood stop p
     → TurnsBeat stop s (beat_by p.owed (histories.see s) p more)
+unfolding TurnsBeat
 stood_turns stop s p more is h =
-    stands_idle (TurnsBeat stop s) (histories.see s) p more h.owed (ap is_running h.stands)
-    (idle_turns stop s p ending.Idle is (stood stop p h))
+    stands_idle (TurnsBeat stop s) (histories.see s) p more h.owed (ap is_running h.stands) (subst (Turns stop) (sym is) (stood stop p h))
 
 beat_turns : (program : Option Program) (stop : Stop) (s : Session) (more : Bool) → program_of s ≡ program → Turns stop program
     → TurnsBeat stop s (beat_of program (histories.see s) more)
@@ -202,7 +183,7 @@ unfolding Turns
 beat_turns None stop s more is (inl h) = absurd h
 beat_turns None stop s more is (inr h) = absurd h
 beat_turns (Some p) stop s more is (inl h) = stood_turns stop s p more is h
-beat_turns (Some p) stop s more is (inr h) = owed_turns p.owed stop s p more refl is h
+beat_turns (Some p) stop s more is (inr h) = by_program (histories.see s) p more (TurnsBeat stop s) (turns_on stop s p more is h)
 
 -- ---- slices
 

@@ -1,20 +1,22 @@
 -- A step back goes one move back, whatever happens.
-use Rattle.history_laws.proofs.Common.{[], answer_to, Answered, answering, Answering, answering_debuggee, ap, Back, back_of, back_outcome, back_tick, Beat, beat_by, beat_of, beats, becomes_program, Bool, by_success, by_turn, BySuccess, bytes_eq, ByTurn, Command, concluded, Connect, Course, course_of, Cut, Debuggee, demand_of, departed, done, DropConnection, Effect, ended, ends, enough, eqb, false, first_mark, FULL, given_of, Goal, goes, goes_on, goes_unless, GoesBack, GoesBackFrom, gone_back, Happened, histories, Hold, if_keeps, inl, inr, intent_of, is_at_limit, is_ended, is_runnable_by, is_running, is_success, is_to_end, is_to_stand, LAST_CONNECTION, leaves, Leaves, leb, left, length, Link, List, ltb, Mark, marked, marked_by, Meets, MOST_PENDING, MOST_PIECE, move_leaves, moved, moves_by, next_by, next_tick, None, not, Now, of_answer, OfEvent, OfProgram, Ok, on, on_program, Option, Outcome, outcome_at, owing_by, Pending, performed, Program, program_of, Recv, refl, Run, run_after, run_left, run_of, Sent, Session, SetBreakpoints, SetFunctionBreakpoints, SetInstructionBreakpoints, SetVariable, Slice, SliceEnd, Slicing, Some, stays, stop_event, stopped, stops, subst, suc, sym, telling, telling_program, tells, tells_only, Terms, the_answered, the_tick, Tick, told, true, Turn, turns_back, undone, Wanted, Whole, Why, why_marked, with_functions, with_instructions, with_list, with_source, WriteMemory, zero, ℕ, ◌&&◌, ◌∙◌, ◌∷◌, ◌≡◌, ◌≢◌, ◌⊎◌}
+use Rattle.history_laws.proofs.Common.{[], answer_to, Answered, answering, Answering, answering_debuggee, ap, Back, back_of, back_outcome, back_tick, Beat, beat_by, beat_of, beats, Bool, by_success, by_turn, BySuccess, bytes_eq, ByTurn, Command, concluded, Course, course_of, Cut, Debuggee, demand_of, departed, done, Effect, ended, ends, enough, false, first_mark, given_of, Goal, goes_on, GoesBack, GoesBackFrom, gone_back, Happened, histories, if_keeps, inl, inr, intent_of, is_ended, is_running, is_success, is_to_end, is_to_stand, leaves, Leaves, left, Link, List, ltb, Mark, marked, marked_by, Meets, move_leaves, moved, next_by, next_tick, None, not, Now, of_answer, OfEvent, OfProgram, Ok, on_program, Option, owing_by, Pending, performed, Program, program_of, refl, Run, run_after, run_left, run_of, Session, SetBreakpoints, SetFunctionBreakpoints, SetInstructionBreakpoints, SetVariable, SliceEnd, Slicing, Some, stays, stopped, subst, suc, sym, telling, telling_program, Terms, the_answered, the_tick, Tick, told, true, Turn, turns_back, undone, Wanted, Whole, Why, why_marked, with_functions, with_instructions, with_list, with_source, WriteMemory, zero, ℕ, ◌&&◌, ◌∙◌, ◌∷◌, ◌≡◌, ◌≢◌, ◌⊎◌}
 use Rattle.stepping.specs.Loading.{no_breakpoints}
 use Rattle.debuggee.specs.declared.run.Mark.TheVariants as mark
 use Rattle.debuggee.specs.declared.run.Run.TheVariants as run
 use Rattle.debuggee.specs.declared.run.Why.TheVariants as why
-use Rattle.history_laws.proofs.Beating.{never_at_limit, stands_idle}
+use Rattle.history_laws.proofs.Beating.{stands_idle}
 use Rattle.history_laws.proofs.Ticking.{back_course, back_goes}
 use Rattle.history_laws.specs.SteppingBack.{HasEnded, HasSteppedBack, IsStartedOrEnded, IsUnderWay, StartsOrEnds, StepsBack, StepsBackIn, StepsGoOneBack, asks_to_start_or_end, starts_or_ends, step_made}
 use Rattle.protocol.specs.Commands.{name_of}
 use Rattle.protocol.specs.declared.disconnect.TheConstants.{NAME as DISCONNECT}
 use Rattle.queues.specs.Arrivals.{name_asked}
+use Rattle.session.specs.Acts.{Accept, Open}
 use Rattle.session.specs.Outcomes.{Outcome as Does}
 use Rattle.session.specs.declared.event.Applied.TheVariants.{Turn as DidTurn}
 use Rattle.session.specs.declared.event.Event.{Event}
-use Rattle.session.specs.declared.event.SliceEnd.TheVariants as ending
 use Rattle.session.specs.declared.event.Turned.TheVariants as turned
+use Rattle.session_laws.proofs.Cases.{ByBeat, by_effect, by_program, StopsFor}
+use Rattle.session_laws.proofs.Joined.{halts_program, NoneBecome, still_holds}
 use Rattle.stepping.specs.declared.tick.Reason.TheVariants as met
 
 -- it steps back, or has
@@ -64,61 +66,11 @@ owes p e = ap (λ (t : Tick). owing_by t.printed t.outcome (moved p).machine.lis
 StepsBy : Course → Session → Beat → Type 0
 StepsBy from s b = Steps from (program_of (performed histories b.acts s))
 
-idle_steps : (from : Course) (s : Session) (program : Option Program) (e : SliceEnd) → program_of s ≡ program → Steps from program
-    → StepsBy from s (ends e)
-unfolding StepsBy
-idle_steps from s program e is h = subst (Steps from) (sym is) h
-
--- it stops where it is
-stop_steps : (from : Course) (s : Session) (p : Program) (w : Why) → Steps from (Some (stopped w p)) → StepsBy from s (stops s.now p w)
-unfolding StepsBy
-stop_steps from s p w h =
-    subst (Steps from) (sym (becomes_program s.now (stopped w p) (tells s.now (stop_event w [] ∷ [])) s
-    (tells_only s.now (stop_event w [] ∷ [])))) h
-
--- a mark stops it before its move
-mark_pauses : (m : Mark) → (let some : Option Mark = Some m in some) ≢ Some mark.Entry → why_marked m ≡ why.Pause
-mark_pauses mark.Entry h = absurd (h refl)
-mark_pauses mark.Pause h = refl
-mark_pauses mark.Hold h = refl
-
-mark_steps : (from : Course) (s : Session) (p : Program) (m : Mark) → p.mark ≡ Some m → p.owed ≡ None → StepsBack from p
-    → StepsBy from s (stops s.now p (why_marked m))
-mark_steps from s p m is owed h =
-    stop_steps from s p (why_marked m) (made from (stopped (why_marked m) p) (
-      owed,
-      inr (
-        ap (λ (w : Why). run.Stopped w) (mark_pauses m (λ e. h.mark (is ∙ e))),
-        subst (IsUnderWay from p) owed h.way,
-      ),
-    ))
-
-move_steps : (from : Course) (s : Session) (p : Program) → p.owed ≡ None → StepsBack from p
-    → StepsBy from s (moves_by s.now p (next_tick p).outcome)
-unfolding StepsBy
-move_steps from s p owed h =
-    let u = undoes p h.goal h.due in
-    subst (λ (o : Outcome). StepsBy from s (moves_by s.now p o)) (sym (ap (λ (t : Tick). t.outcome) u.tick))
-    (still from (moved p) (record {
-      runs = h.runs;
-      goal = u.goal;
-      due = u.due;
-      mark = h.mark;
-      way = subst (IsUnderWay from (moved p)) (sym (owes p u.tick))
-          (refl, u.course ∙ ap gone_back (subst (IsUnderWay from p) owed h.way));
-    }))
-
-go_steps : (from : Course) (s : Session) (p : Program) (more : Bool) → program_of s ≡ Some p → p.owed ≡ None → StepsBack from p
-    → StepsBy from s (goes s.now p more)
-go_steps from s p more is owed h =
-    if_keeps (StepsBy from s) p.machine.check_due _ _ (λ due. absurd (let no : true ≡ false = sym due ∙ h.due in cc))
-    (λ _. if_keeps (StepsBy from s) (not more) _ _ (λ _. idle_steps from s (Some p) ending.Spent is (still from p h))
-    (λ _. if_keeps (StepsBy from s) (is_at_limit s.now p) _ _ (λ limit. never_at_limit s.now p Back h.goal refl limit) (λ _. move_steps from s p owed h)))
-
-unless_steps : (from : Course) (s : Session) (p : Program) (m : Option Mark) (more : Bool) → p.mark ≡ m → program_of s ≡ Some p
-    → p.owed ≡ None → StepsBack from p → StepsBy from s (goes_unless m s.now p more)
-unless_steps from s p None more e is owed h = go_steps from s p more is owed h
-unless_steps from s p (Some m) more e is owed h = mark_steps from s p m e owed h
+-- it stops at a mark, which is not that of its entry
+paused : (p : Program) (w : Why) → (m : Mark) × (p.mark ≡ Some m) × (why_marked m ≡ w) → p.mark ≢ Some mark.Entry → w ≡ why.Pause
+paused p w (mark.Entry, is, same) h = absurd (h is)
+paused p w (mark.Pause, is, same) h = sym same
+paused p w (mark.Hold, is, same) h = sym same
 
 -- what is owed is told
 tick_steps : (from : Course) (s : Session) (p : Program) (tick : Tick) → p.owed ≡ Some tick → StepsBack from p
@@ -129,14 +81,37 @@ tick_steps from s p tick owed h =
     (λ (t : Tick). let q : Option Program = Some (concluded t.outcome (told p)) in q) way.0))
     (made from (stopped (why.Met met.Goal) (told p)) (refl, inl (refl, way.1)))
 
-way_by : (owed : Option Tick) (from : Course) (s : Session) (p : Program) (more : Bool) → p.owed ≡ owed → program_of s ≡ Some p
-    → StepsBack from p → StepsBy from s (beat_by owed (histories.see s) p more)
+-- its move is made, and undoes one
+steps_on : (from : Course) (s : Session) (p : Program) (more : Bool) → program_of s ≡ Some p → StepsBack from p
+    → ByBeat (histories.see s) p more (StepsBy from s)
 unfolding StepsBy
-way_by (Some tick) from s p more owed is h = tick_steps from s p tick owed h
-way_by None from s p more owed is h =
-    if_keeps (StepsBy from s) (not (is_runnable_by s.now.link p.run)) _ _ (λ _. idle_steps from s (Some p) ending.Idle is (still from p h))
-    (λ _. if_keeps (StepsBy from s) (ltb FULL (length s.waiting)) _ _
-    (λ _. idle_steps from s (Some p) ending.Full is (still from p h)) (λ _. unless_steps from s p p.mark more refl is owed h))
+steps_on from s p more is h = record {
+  tells = λ tick owed. tick_steps from s p tick owed h;
+  ends_for = λ _ _ _. subst (Steps from) (sym is) (still from p h);
+  stops_for = λ w owed why. subst (Steps from) (sym (halts_program s.now p w [] s)) (stops w owed why);
+  exits_with = λ code _ _ e. never (ap stays e);
+  enters = λ _ _ due. absurd (let no : true ≡ false = sym due ∙ h.due in cc);
+  moves = λ owed _ _ _ _. still from (moved p) (record {
+    runs = h.runs;
+    goal = u.goal;
+    due = u.due;
+    mark = h.mark;
+    way = subst (IsUnderWay from (moved p)) (sym (owes p u.tick))
+        (refl, u.course ∙ ap gone_back (subst (IsUnderWay from p) owed h.way));
+  });
+} where
+  u : Undoes p
+  u = undoes p h.goal h.due
+
+  never : {A : Type 0} → stays (next_tick p).outcome ≡ true → A
+  never e = absurd (let no : true ≡ false = sym e ∙ ap (λ (t : Tick). stays t.outcome) u.tick in cc)
+
+  stops : (w : Why) → p.owed ≡ None → StopsFor p w → Steps from (Some (stopped w p))
+  stops why.Limit owed forward = absurd (let no : true ≡ false = sym (ap turns_back h.goal) ∙ forward in cc)
+  stops (why.Met reason) owed met = never (ap stays met.1 ∙ met.2)
+  stops w owed m =
+      made from (stopped w p)
+      (owed, inr (ap (λ (w : Why). run.Stopped w) (paused p w m h.mark), subst (IsUnderWay from p) owed h.way))
 
 -- one that has stepped back stands still
 stands_by : (from : Course) (p : Program) → HasSteppedBack from p → is_running p.run ≡ false
@@ -148,9 +123,9 @@ stands_by from p h = by h.1 where
 
 made_by : (from : Course) (s : Session) (p : Program) (more : Bool) → program_of s ≡ Some p → HasSteppedBack from p
     → StepsBy from s (beat_by p.owed (histories.see s) p more)
+unfolding StepsBy
 made_by from s p more is h =
-    stands_idle (StepsBy from s) (histories.see s) p more h.0 (stands_by from p h)
-    (idle_steps from s (Some p) ending.Idle is (made from p h))
+    stands_idle (StepsBy from s) (histories.see s) p more h.0 (stands_by from p h) (subst (Steps from) (sym is) (made from p h))
 
 beat_steps : (program : Option Program) (from : Course) (s : Session) (more : Bool) → program_of s ≡ program → Steps from program
     → StepsBy from s (beat_of program (histories.see s) more)
@@ -158,7 +133,8 @@ unfolding Steps
 beat_steps None from s more is (inl h) = absurd h
 beat_steps None from s more is (inr h) = absurd h
 beat_steps (Some p) from s more is (inl h) = made_by from s p more is h
-beat_steps (Some p) from s more is (inr h) = way_by p.owed from s p more refl is h
+beat_steps (Some p) from s more is (inr h) =
+    by_program (histories.see s) p more (StepsBy from s) (steps_on from s p more is h)
 
 -- ---- a slice
 
@@ -324,9 +300,6 @@ answer_steps from now terms file p h =
 
 -- ---- an event
 
-abbrev Passes : Course → Session → Event → Does → Type 0
-Passes from s e o = IsStartedOrEnded s e ⊎ Steps from (program_of (performed histories o.acts s))
-
 turn_passes : (file : Option (List ℕ)) (from : Course) (s : Session) → OfProgram (StepsBack from) (program_of s)
     → IsStartedOrEnded s (Turn file) ⊎ Steps from (program_of (Effect s (Turn file)))
 turn_passes file from s h = by_turn (histories.see s) file P kinds s.now.link where
@@ -351,51 +324,25 @@ turn_passes file from s h = by_turn (histories.see s) file P kinds s.now.link wh
     answers = λ l p. answers l p (answer_steps from s.now l.terms file p h);
   }
 
-piece_passes : (l : Link) (piece : List ℕ) (from : Course) (s : Session) → OfProgram (StepsBack from) (program_of s)
-    → Passes from (on (Some l) s) (Recv piece) (outcome_at (histories.see (on (Some l) s)) (Some l) (Recv piece))
-piece_passes l piece from s h =
-    let same = inr (still_steps from (program_of s) h) in
-    let P : Does → Type 0 = Passes from (on (Some l) s) (Recv piece) in
-    if_keeps P l.is_closing _ _ (λ _. same)
-    (λ _. if_keeps P (ltb MOST_PIECE (length piece)) _ _ (λ _. same)
-    (λ _. if_keeps P (leb MOST_PENDING (length s.now.arrivals.pending)) _ _ (λ _. same)
-    (λ _. if_keeps (λ (t : Session). IsStartedOrEnded (on (Some l) s) (Recv piece) ⊎ Steps from (program_of t)) l.is_closing _ _
-    (λ _. same) (λ _. same))))
-
 hold_steps : (from : Course) (program : Option Program) → OfProgram (StepsBack from) program
     → Steps from (on_program (marked mark.Hold) program)
 hold_steps from program h = on_steps (marked mark.Hold) program from h (marked_steps mark.Hold no_hold from)
 
-outcome_passes : (l : Option Link) (e : Event) (from : Course) (s : Session) → OfProgram (StepsBack from) (program_of s)
-    → Passes from (on l s) e (outcome_at (histories.see (on l s)) l e)
-outcome_passes None Connect from s h =
-    if_keeps (Passes from (on None s) Connect) (eqb s.now.connections LAST_CONNECTION) _ _
-    (λ _. inr (still_steps from (program_of s) h)) (λ _. inr (still_steps from (program_of s) h))
-outcome_passes None (Recv piece) from s h = inr (still_steps from (program_of s) h)
-outcome_passes None (Turn file) from s h = turn_passes file from (on None s) h
-outcome_passes None (Slice n) from s h = inr (still_steps from (program_of s) h)
-outcome_passes None Hold from s h = inr (hold_steps from (program_of s) h)
-outcome_passes None (Sent n) from s h = inr (still_steps from (program_of s) h)
-outcome_passes None DropConnection from s h = inr (still_steps from (program_of s) h)
-outcome_passes (Some l) Connect from s h = inr (still_steps from (program_of s) h)
-outcome_passes (Some l) (Recv piece) from s h = piece_passes l piece from s h
-outcome_passes (Some l) (Turn file) from s h = turn_passes file from (on (Some l) s) h
-outcome_passes (Some l) (Slice n) from s h = inr (still_steps from (program_of s) h)
-outcome_passes (Some l) Hold from s h = inr (hold_steps from (program_of s) h)
-outcome_passes (Some l) (Sent n) from s h =
-    if_keeps (Passes from (on (Some l) s) (Sent n)) (ltb (length (on (Some l) s).waiting) n) _ _
-    (λ _. inr (still_steps from (program_of s) h)) (λ _. inr (still_steps from (program_of s) h))
-outcome_passes (Some l) DropConnection from s h = inr (on_steps left (program_of s) from h (left_steps from))
-
 event_passes : (e : Event) (from : Course) (s : Session) → OfProgram (StepsBack from) (program_of s)
     → IsStartedOrEnded s e ⊎ Steps from (program_of (Effect s e))
-event_passes Connect from s h = outcome_passes s.now.link Connect from s h
-event_passes (Recv piece) from s h = outcome_passes s.now.link (Recv piece) from s h
-event_passes (Turn file) from s h = turn_passes file from s h
-event_passes (Slice n) from s h = inr (slice_steps n (enough n) s from (still_steps from (program_of s) h))
-event_passes Hold from s h = outcome_passes s.now.link Hold from s h
-event_passes (Sent n) from s h = outcome_passes s.now.link (Sent n) from s h
-event_passes DropConnection from s h = outcome_passes s.now.link DropConnection from s h
+unfolding NoneBecome
+event_passes e from s h = by_effect s (λ e t. IsStartedOrEnded s e ⊎ Steps from (program_of t)) (record {
+  refuses = λ _ _. inr same;
+  opens = inr (still_holds (Steps from) (Open ∷ []) s tt same);
+  accepts = λ piece. inr (still_holds (Steps from) (Accept piece ∷ []) s tt same);
+  turns = λ file. turn_passes file from s h;
+  slices = λ _. inr same;
+  holds = inr (hold_steps from (program_of s) h);
+  takes = λ _. inr same;
+  drops = λ _ _. inr (on_steps left (program_of s) from h (left_steps from));
+}) (λ n. inr (slice_steps n (enough n) s from same)) e where
+  same : Steps from (program_of s)
+  same = still_steps from (program_of s) h
 
 each_passes : (x : Happened) (from : Course) (s : Session) → OfProgram (StepsBack from) (program_of s)
     → OfEvent (IsStartedOrEnded s) x ⊎ Steps from (program_of (leaves s x))

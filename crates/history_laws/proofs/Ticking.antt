@@ -1,5 +1,5 @@
 -- What a tick comes to and leaves: how it continues, and, where it goes back, the move that is undone.
-use Rattle.history_laws.proofs.Common.{[], arith, Back, back_outcome, Course, course_of, Debugged, false, Go, Goal, gone_back, Hit, if_keeps, In, LeadTo, length, List, looked_at, Makes, moves_from_oldest, oldest_of, Out, Outcome, outcome_or, Over, Position, refl, ReverseGo, standing_in, stays, subst, suc, undone_by, undone_to, unless_start, ℕ, ◌∙◌, ◌∷◌, ◌≡◌}
+use Rattle.history_laws.proofs.Common.{[], arith, back_outcome, Course, course_of, Debugged, false, Go, Goal, gone_back, Hit, if_keeps, LeadTo, length, List, looked_at, Makes, moves_from_oldest, oldest_of, Outcome, outcome_or, Position, refl, ReverseGo, standing_in, stays, subst, suc, undone_by, undone_to, unless_start, ℕ, ◌∙◌, ◌∷◌, ◌≡◌}
 use Rattle.history_laws.specs.SteppingBack.{OneEarlier}
 
 -- ---- where no instruction traps or ends the program

@@ -5,7 +5,7 @@ use Rattle.std.specs.Str.{IsUtf8, is_utf8}
 use Rattle.serde_json.specs.Data.{Data}
 use Rattle.serde_json.specs.Read.{read}
 use Rattle.serde_json.specs.declared.error.Category.{Category}
-use Rattle.serde_json.specs.declared.error.Category.TheVariants.{Syntax, Data as IsData, Eof, Io, Memory}
+use Rattle.serde_json.specs.declared.error.Category.TheVariants.{Memory}
 use Rattle.protocol.specs.Json.{GivesValue, fault_of, json_of}
 
 -- text is read

@@ -3,7 +3,7 @@ use Rattle.std.proofs.Common.{◌≡◌, ℕ, Bool, true, false, cond, List, [],
 use Rattle.std.proofs.lemmas.Grind.{common_steps}
 use Rattle.std.proofs.lemmas.Slice.Eq.{bytes_eq-Decides}
 use Rattle.std.specs.List.{AllByRecursion}
-use Rattle.std.specs.Prelude.{IfSome, ok_or, bytes_eq, option_and_then, option_map}
+use Rattle.std.specs.Prelude.{IfSome, if◌then◌else◌, ok_or, bytes_eq, option_and_then, option_map}
 use Rattle.serde_json.specs.Data.{Data, Members}
 use Rattle.protocol.specs.Arguments.{arguments_members}
 use Rattle.protocol.specs.Commands.{requests, execution_requests, inspection_requests, command_among, command_of, name_of}
@@ -79,6 +79,23 @@ named_among [] name members command keep e = absurd (cc)
 named_among (r ∷ rs) name members command keep e =
     named_at (bytes_eq name r.name) r name members _ command refl keep.0
     (named_among rs name members command keep.1) e
+
+-- A request is asked for with an object, and without one: the name is known to both or to neither, and it is refused without.
+pub record Without (with_object without : Result Command Refusal) : Type 0 where
+  pub unknown : with_object ≡ Err UnknownCommand → without ≡ Err UnknownCommand
+  pub known : (with_object ≡ Err UnknownCommand → ⊥) → without ≡ Err BadArguments
+
+-- a row that is not asked for is passed over
+by_row : (found : Option Command) (with_object without : Result Command Refusal) (asked : Bool) → Without with_object without
+    → Without (if asked then ok_or found BadArguments else with_object) (if asked then Err BadArguments else without)
+by_row found with_object without false h = h
+by_row None with_object without true h = record { unknown = λ e. absurd (cc); known = λ _. refl }
+by_row (Some command) with_object without true h = record { unknown = λ e. absurd (cc); known = λ _. refl }
+
+pub without_object : (rows : List Row) (name : List ℕ) (members : Members)
+    → Without (command_among rows name (Some members)) (command_among rows name None)
+without_object [] name _ = record { unknown = λ _. refl; known = λ never. absurd (never refl) }
+without_object (r ∷ rs) name members = by_row (r.meaning members) _ _ (bytes_eq name r.name) (without_object rs name members)
 
 -- names that are not asked for are passed over
 pub others_skipped : (rows rest : List Row) (name : List ℕ) (found : Option Members)

@@ -1,6 +1,5 @@
 //! The requests that the adapter has, in one list.
-ghost use Rattle.std.specs.Prelude.{◌≡◌, ◌++◌, option_map};
-ghost use Rattle.std.specs.Result.{result_ok};
+ghost use Rattle.std.specs.Prelude.{◌≡◌, ◌++◌, None, option_map, Some};
 ghost use Rattle.serde_json.specs.View.{view, members_view};
 ghost use Rattle.protocol.specs.Commands.{command_among, command_of, name_of, requests, Finds};
 ghost use Rattle.protocol.specs.Commands.{execution_requests, inspection_requests};
@@ -116,9 +115,6 @@ impl Command {
     }
 }
 
-/// The members of the arguments of a request, or that these are no object.
-type Members<'v> = Result<&'v Map<String, Value>, Unread>;
-
 /// The command of that name with those arguments; `None` where the adapter has no request of that
 /// name, whatever the arguments are. Else `Bad` where these are no object, or one that is required
 /// is absent, or one that is looked at has another type than the schema's or is a number out of
@@ -132,74 +128,81 @@ pub(crate) fn command_named(
         (option_map (λ value. view value.now) arguments.entry)) }
 {
     match arguments {
-        Some(value) => command_with(alloc, name, value.as_object().ok_or(Unread::Bad)),
-        None => command_with(alloc, name, Ok(&Map::new(alloc))),
+        Some(value) => match value.as_object() {
+            Some(members) => command_with(alloc, name, members),
+            None => command_without(alloc, name),
+        },
+        None => command_with(alloc, name, &Map::new(alloc)),
+    }
+}
+
+// Where the arguments are no object, a name that the adapter has is one whose arguments are bad.
+fn command_without(alloc: Global, name: &str) -> Result<Option<Command>, Unread>
+    ensures { Finds result (command_among requests name.now None) }
+{
+    match command_with(alloc, name, &Map::new(alloc)) {
+        Ok(None) => Ok(None),
+        Ok(Some(command)) => {
+            drop(command);
+            Err(Unread::Bad)
+        }
+        Err(why) => Err(why),
     }
 }
 
 /// The command of that name with arguments of these members.
-fn command_with(alloc: Global, name: &str, members: Members) -> Result<Option<Command>, Unread>
+fn command_with(
+    alloc: Global,
+    name: &str,
+    members: &Map<String, Value>,
+) -> Result<Option<Command>, Unread>
     ensures { Finds result (command_among requests name.now
-        (option_map (λ m. members_view m.now.entries) (result_ok members.entry))) }
+        (Some (members_view members.now.entries))) }
 {
     match name {
-        initialize::NAME => Ok(Some(Command::Initialize(initialize::arguments(alloc, members?)?))),
-        launch::NAME => Ok(Some(Command::Launch(launch::arguments(alloc, members?)?))),
-        attach::NAME => {
-            members?;
-            Ok(Some(Command::Attach))
-        }
-        configuration_done::NAME => {
-            members?;
-            Ok(Some(Command::ConfigurationDone))
-        }
-        threads::NAME => {
-            members?;
-            Ok(Some(Command::Threads))
-        }
-        cancel::NAME => Ok(Some(Command::Cancel(cancel::arguments(alloc, members?)?))),
-        restart::NAME => {
-            members?;
-            Ok(Some(Command::Restart))
-        }
-        terminate::NAME => {
-            members?;
-            Ok(Some(Command::Terminate))
-        }
-        disconnect::NAME => Ok(Some(Command::Disconnect(disconnect::arguments(alloc, members?)?))),
+        initialize::NAME => Ok(Some(Command::Initialize(initialize::arguments(alloc, members)?))),
+        launch::NAME => Ok(Some(Command::Launch(launch::arguments(alloc, members)?))),
+        attach::NAME => Ok(Some(Command::Attach)),
+        configuration_done::NAME => Ok(Some(Command::ConfigurationDone)),
+        threads::NAME => Ok(Some(Command::Threads)),
+        cancel::NAME => Ok(Some(Command::Cancel(cancel::arguments(alloc, members)?))),
+        restart::NAME => Ok(Some(Command::Restart)),
+        terminate::NAME => Ok(Some(Command::Terminate)),
+        disconnect::NAME => Ok(Some(Command::Disconnect(disconnect::arguments(alloc, members)?))),
         _ => execution_command(alloc, name, members),
     }
 }
 
 /// The command of that name among those that set breakpoints, run the program or look into it.
 #[tactic(auto, unfolding(crate::specs::Commands::execution_requests))]
-fn execution_command(alloc: Global, name: &str, members: Members) -> Result<Option<Command>, Unread>
+fn execution_command(
+    alloc: Global,
+    name: &str,
+    members: &Map<String, Value>,
+) -> Result<Option<Command>, Unread>
     ensures { Finds result (command_among (execution_requests ++ inspection_requests) name.now
-        (option_map (λ m. members_view m.now.entries) (result_ok members.entry))) }
+        (Some (members_view members.now.entries))) }
 {
     match name {
         set_breakpoints::NAME => Ok(Some(Command::SetBreakpoints(set_breakpoints::arguments(
-            alloc, members?,
+            alloc, members,
         )?))),
         set_function_breakpoints::NAME => Ok(Some(Command::SetFunctionBreakpoints(
-            set_function_breakpoints::arguments(alloc, members?)?,
+            set_function_breakpoints::arguments(alloc, members)?,
         ))),
         set_instruction_breakpoints::NAME => Ok(Some(Command::SetInstructionBreakpoints(
-            set_instruction_breakpoints::arguments(alloc, members?)?,
+            set_instruction_breakpoints::arguments(alloc, members)?,
         ))),
-        set_exception_breakpoints::NAME => {
-            members?;
-            Ok(Some(Command::SetExceptionBreakpoints))
-        }
-        continue_::NAME => Ok(Some(Command::Continue(thread_arguments(alloc, members?)?))),
-        next::NAME => Ok(Some(Command::Next(step_arguments(alloc, members?)?))),
-        step_in::NAME => Ok(Some(Command::StepIn(step_arguments(alloc, members?)?))),
-        step_out::NAME => Ok(Some(Command::StepOut(step_arguments(alloc, members?)?))),
-        step_back::NAME => Ok(Some(Command::StepBack(step_arguments(alloc, members?)?))),
+        set_exception_breakpoints::NAME => Ok(Some(Command::SetExceptionBreakpoints)),
+        continue_::NAME => Ok(Some(Command::Continue(thread_arguments(alloc, members)?))),
+        next::NAME => Ok(Some(Command::Next(step_arguments(alloc, members)?))),
+        step_in::NAME => Ok(Some(Command::StepIn(step_arguments(alloc, members)?))),
+        step_out::NAME => Ok(Some(Command::StepOut(step_arguments(alloc, members)?))),
+        step_back::NAME => Ok(Some(Command::StepBack(step_arguments(alloc, members)?))),
         reverse_continue::NAME => Ok(Some(Command::ReverseContinue(thread_arguments(
-            alloc, members?,
+            alloc, members,
         )?))),
-        pause::NAME => Ok(Some(Command::Pause(thread_arguments(alloc, members?)?))),
+        pause::NAME => Ok(Some(Command::Pause(thread_arguments(alloc, members)?))),
         _ => inspection_command(alloc, name, members),
     }
 }
@@ -209,29 +212,25 @@ fn execution_command(alloc: Global, name: &str, members: Members) -> Result<Opti
 fn inspection_command(
     alloc: Global,
     name: &str,
-    members: Members,
+    members: &Map<String, Value>,
 ) -> Result<Option<Command>, Unread>
     ensures { Finds result (command_among inspection_requests name.now
-        (option_map (λ m. members_view m.now.entries) (result_ok members.entry))) }
+        (Some (members_view members.now.entries))) }
 {
     match name {
-        stack_trace::NAME => Ok(Some(Command::StackTrace(stack_trace::arguments(
-            alloc, members?,
-        )?))),
-        scopes::NAME => Ok(Some(Command::Scopes(scopes::arguments(alloc, members?)?))),
-        variables::NAME => Ok(Some(Command::Variables(variables::arguments(alloc, members?)?))),
+        stack_trace::NAME => Ok(Some(Command::StackTrace(stack_trace::arguments(alloc, members)?))),
+        scopes::NAME => Ok(Some(Command::Scopes(scopes::arguments(alloc, members)?))),
+        variables::NAME => Ok(Some(Command::Variables(variables::arguments(alloc, members)?))),
         set_variable::NAME => Ok(Some(Command::SetVariable(set_variable::arguments(
-            alloc, members?,
+            alloc, members,
         )?))),
-        evaluate::NAME => Ok(Some(Command::Evaluate(evaluate::arguments(alloc, members?)?))),
+        evaluate::NAME => Ok(Some(Command::Evaluate(evaluate::arguments(alloc, members)?))),
         disassemble::NAME => Ok(Some(Command::Disassemble(disassemble::arguments(
-            alloc, members?,
+            alloc, members,
         )?))),
-        read_memory::NAME => Ok(Some(Command::ReadMemory(read_memory::arguments(
-            alloc, members?,
-        )?))),
+        read_memory::NAME => Ok(Some(Command::ReadMemory(read_memory::arguments(alloc, members)?))),
         write_memory::NAME => Ok(Some(Command::WriteMemory(write_memory::arguments(
-            alloc, members?,
+            alloc, members,
         )?))),
         _ => Ok(None),
     }

@@ -6,19 +6,19 @@ use Rattle.std.specs.Str.Parse.{digits_value}
 use Rattle.numerals.specs.Numerals.{magnitude, magnitude_by, numeral, prefixed, within}
 use Rattle.numerals.specs.declared.NumeralError.{NumeralError}
 use Rattle.numerals.specs.declared.NumeralError.TheVariants.{Malformed, TooLarge}
-use Rattle.expressions.specs.Tokens.{IsTokens, Spells}
-use Rattle.expressions.specs.Trees.{Tree, Number, Register, Pc, Unary, Binary, Enclosed, tokens_of}
-use Rattle.expressions.specs.Values.{Valued, before, between, decides, enclosed, is_true, value_of, with_value, word_anywhere}
-use Rattle.expressions.specs.declared.error.ExprFault.{ExprFault}
-use Rattle.expressions.specs.declared.error.ExprFault.TheVariants.{Outside}
-use Rattle.expressions.specs.declared.token.Bracket.{Bracket}
-use Rattle.expressions.specs.declared.token.Bracket.TheVariants.{Round, Square}
-use Rattle.expressions.specs.declared.token.Infix.{Infix}
-use Rattle.expressions.specs.declared.token.Infix.TheVariants.{OrElse, AndThen, Or, Xor, And, Equal, NotEqual, Less, LessEqual, Greater, GreaterEqual, ShiftLeft, ShiftRight, Plus, Minus, Times}
-use Rattle.expressions.specs.declared.token.Prefix.{Prefix}
-use Rattle.expressions.specs.declared.token.Prefix.TheVariants.{Negate, Complement, Not}
-use Rattle.expressions.specs.declared.token.Token.{Token}
-use Rattle.expressions.specs.declared.token.Token.TheVariants as t
+use Rattle.breakpoints.specs.Tokens.{IsTokens, Spells}
+use Rattle.breakpoints.specs.Trees.{Tree, Number, Register, Pc, Unary, Binary, Enclosed, tokens_of}
+use Rattle.breakpoints.specs.Values.{Valued, before, between, decides, enclosed, is_true, value_of, with_value, word_anywhere}
+use Rattle.breakpoints.specs.declared.error.ExprFault.{ExprFault}
+use Rattle.breakpoints.specs.declared.error.ExprFault.TheVariants.{Outside}
+use Rattle.breakpoints.specs.declared.token.Bracket.{Bracket}
+use Rattle.breakpoints.specs.declared.token.Bracket.TheVariants.{Round, Square}
+use Rattle.breakpoints.specs.declared.token.Infix.{Infix}
+use Rattle.breakpoints.specs.declared.token.Infix.TheVariants.{OrElse, AndThen, Or, Xor, And, Equal, NotEqual, Less, LessEqual, Greater, GreaterEqual, ShiftLeft, ShiftRight, Plus, Minus, Times}
+use Rattle.breakpoints.specs.declared.token.Prefix.{Prefix}
+use Rattle.breakpoints.specs.declared.token.Prefix.TheVariants.{Negate, Complement, Not}
+use Rattle.breakpoints.specs.declared.token.Token.{Token}
+use Rattle.breakpoints.specs.declared.token.Token.TheVariants as t
 use Rattle.range_laws.specs.Values.{HasWords, TreesHaveWords, ValuesAreWords}
 use Rattle.range_laws.proofs.Words.{and_word, difference_word, flag_word, left_word, or_word, register_word, right_word, sum_word, word_read, wrapped, xor_word}
 

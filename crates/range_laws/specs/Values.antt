@@ -3,9 +3,9 @@
 -- A number in a text is read only where it has 32 bits, so each number of the tree of a text is a word. On a machine in
 -- range the registers, pc and the words of memory are words too, and each operator makes a word of words.
 use Rattle.std.specs.Prelude.{ℕ, List, IfOk}
-use Rattle.expressions.specs.Texts.{IsTreeOf}
-use Rattle.expressions.specs.Trees.{Tree, Number, Register, Pc, Unary, Binary, Enclosed}
-use Rattle.expressions.specs.Values.{value_of}
+use Rattle.breakpoints.specs.Texts.{IsTreeOf}
+use Rattle.breakpoints.specs.Trees.{Tree, Number, Register, Pc, Unary, Binary, Enclosed}
+use Rattle.breakpoints.specs.Values.{value_of}
 use Rattle.rv32i.specs.Machine.{machine_of}
 use Rattle.rv32i.specs.declared.hart.Hart.{Hart}
 use Rattle.range_laws.specs.Machines.{InRange, IsWord}

@@ -203,9 +203,15 @@ pub(crate) fn message(alloc: Global, value: &Value) -> Result<(u32, Message), Un
     ensures { Reads result (message_in (view value.now)) }
 {
     let (seq, message) = claim_in(alloc, value)?;
-    if is_same(alloc, value, seq, &message)? {
-        Ok((seq, message))
-    } else {
-        Err(Unread::Bad)
+    match is_same(alloc, value, seq, &message) {
+        Ok(true) => Ok((seq, message)),
+        Ok(false) => {
+            drop(message);
+            Err(Unread::Bad)
+        }
+        Err(AllocError) => {
+            drop(message);
+            Err(Unread::NoMemory)
+        }
     }
 }

@@ -119,17 +119,31 @@ fn serve_with(
 ) -> ExitCode
     requires { IsOffered options.now.memory }
 {
-    let mut recording = None;
-    if let Some(folder) = &options.recording {
-        match Recording::begin(rt, folder.as_str(), options, program.as_ref()) {
-            Ok(begun) => recording = Some(begun),
-            Err(error) => return unrecorded(rt, folder.as_str(), &error),
+    match recording_in(rt, options, program.as_ref()) {
+        Ok(mut recording) => {
+            let status = serve_from(rt, options, program, file, recording.as_mut());
+            drop(recording);
+            status
+        }
+        Err(status) => {
+            drop(program);
+            status
         }
     }
-    match new_session(rt.alloc(), MemorySize::of(options.memory), program) {
-        Ok(mut session) => exit_with(rt, serve_recorded(rt, options, &mut session, recording)),
-        Err(NoSession::Assembly(error)) => fail_at(rt, file, error),
-        Err(NoSession::NoMemory) => exit_with(rt, ExitReason::NoMemory),
+}
+
+// The recording that is asked for, if one is; or the status where there is no folder to record in.
+fn recording_in<'a>(
+    rt: &'a HostRuntime,
+    options: &'a Options,
+    program: Option<&(Text, Bytes)>,
+) -> Result<Option<Recording<'a>>, ExitCode> {
+    let Some(folder) = &options.recording else {
+        return Ok(None);
+    };
+    match Recording::begin(rt, folder.as_str(), options, program) {
+        Ok(recording) => Ok(Some(recording)),
+        Err(error) => Err(unrecorded(rt, folder.as_str(), &error)),
     }
 }
 
@@ -139,16 +153,36 @@ fn unrecorded(rt: &HostRuntime, folder: &str, error: &io::Error) -> ExitCode {
     ExitCode::from(2)
 }
 
+fn serve_from(
+    rt: &HostRuntime,
+    options: &Options,
+    program: Option<(Text, Bytes)>,
+    file: &str,
+    recording: Option<&mut Recording<'_>>,
+) -> ExitCode
+    requires { IsOffered options.now.memory }
+{
+    match new_session(rt.alloc(), MemorySize::of(options.memory), program) {
+        Ok(mut session) => {
+            let reason = serve_recorded(rt, options, &mut session, recording);
+            drop(session);
+            exit_with(rt, reason)
+        }
+        Err(NoSession::Assembly(error)) => fail_at(rt, file, error),
+        Err(NoSession::NoMemory) => exit_with(rt, ExitReason::NoMemory),
+    }
+}
+
 fn serve_recorded(
     rt: &HostRuntime,
     options: &Options,
     session: &mut Session,
-    recording: Option<Recording<'_>>,
+    recording: Option<&mut Recording<'_>>,
 ) -> ExitReason {
-    let Some(mut recording) = recording else {
+    let Some(recording) = recording else {
         return serve_editors(rt, options, session, &mut Unrecorded);
     };
-    let reason = serve_editors(rt, options, session, &mut recording);
+    let reason = serve_editors(rt, options, session, recording);
     recording.end();
     reason
 }

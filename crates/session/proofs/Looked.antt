@@ -12,9 +12,9 @@ use Rattle.answers.specs.Scopes.{body_by as scopes_by}
 use Rattle.answers.specs.Targets.{frame_of, frame_refusal, if_frame, refused, target_of}
 use Rattle.answers.specs.Variables.{body_by as variables_by, variables_in}
 use Rattle.answers.specs.WriteMemory.{written as written_by}
-use Rattle.expressions.specs.Trees.{Tree}
-use Rattle.expressions.specs.Values.{value_of}
-use Rattle.expressions.specs.declared.error.ExprFault.{ExprFault}
+use Rattle.breakpoints.specs.Trees.{Tree}
+use Rattle.breakpoints.specs.Values.{value_of}
+use Rattle.breakpoints.specs.declared.error.ExprFault.{ExprFault}
 use Rattle.protocol.specs.declared.disassemble.DisassembleArguments.{DisassembleArguments}
 use Rattle.protocol.specs.declared.read_memory.ReadMemoryArguments.{ReadMemoryArguments}
 use Rattle.protocol.specs.declared.variables.VariablesArguments.{VariablesArguments}

@@ -298,7 +298,7 @@ impl State {
                 draft,
             }),
             Err(refused) => {
-                discard(change);
+                drop(change);
                 Err(refused)
             }
         }
@@ -359,7 +359,7 @@ impl State {
         ensures err { OnErr result (self.new ≡ self.old) }
     {
         if let Err(refused) = self.buffer.push(draft.bytes()) {
-            discard(change);
+            drop(change);
             return Err(refused);
         }
         match self.change(change) {
@@ -401,7 +401,7 @@ impl State {
             { now = now_changed (a_change.Load program) self.old.now } }
     {
         if let Some(before) = self.program.replace(program) {
-            discard(Change::Load(before));
+            drop(before);
         }
     }
 
@@ -696,6 +696,3 @@ fn first_fault(message: Option<MessageError>, frame: Option<FrameError>) -> Opti
         },
     }
 }
-
-// A change is not made, or what it replaced goes. To prove that a program can be dropped is dear, so it is done here alone.
-fn discard(_change: Change) {}

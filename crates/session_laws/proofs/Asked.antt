@@ -1,5 +1,5 @@
 -- Requests as they come: with numbers and bytes that a request may have, and no refusal that has a text of its own.
-use Rattle.session_laws.proofs.Common.{[], all_joined, ap, arith, Arrivals, Ask, asks_in, asks_of, AsksLinesWithin, Bad, Err, false, GivesBytes, Ignored, Incoming, incoming_of, inl, inr, IsBad, IsRefusalOf, IsRequest, List, map, map-id, MessageError, None, number_of, Ok, Pending, Refusal, Request, Result, Some, subst, sym, ℕ, ◌++◌, ◌∙◌, ◌∷◌, ◌≡◌, ◌≤◌}
+use Rattle.session_laws.proofs.Common.{[], all_joined, ap, arith, Arrivals, Ask, asks_in, asks_of, AsksLinesWithin, Bad, Err, false, GivesBytes, Ignored, Incoming, incoming_of, IsBad, IsRefusalOf, IsRequest, List, map, map-id, MessageError, number_of, Ok, Pending, Refusal, Request, Result, subst, sym, ℕ, ◌++◌, ◌∙◌, ◌∷◌, ◌≡◌, ◌≤◌}
 use Rattle.protocol.proofs.Meanings.{IsSound, IsOfNameOrArguments, incoming_of-sound}
 use Rattle.protocol.specs.Refusals.{has_text}
 use Rattle.range_laws.proofs.Requests.{BodyGives, body_gives}

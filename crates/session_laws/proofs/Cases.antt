@@ -1,5 +1,5 @@
 -- A beat and an event in the cases that they come to: what holds of each case holds of the beat, or of what the event does.
-use Rattle.session_laws.proofs.Common.{[], Accept, AnEvent as Event, ap, Beat, beat_by, beat_of, becomes, Bool, by_move, cond, Connect, Connected, DidSend, done, DropConnection, Dropped, Effect, Ended, ending_of, ends, entered, eqb, EventError, exits, false, FULL, goes_unless, Held, histories, Hold, holding, if_keeps, is_at_limit, is_runnable_by, LAST_CONNECTION, leaving, leb, length, Link, List, ltb, makes_move, Mark, MOST_PENDING, MOST_PIECE, moves_by, next_tick, None, not, Now, Open, Option, Outcome, outcome_at, performed, Program, Received, Recv, refl, refused, Seen, Sent, Session, Slice, sliced, SliceEnd, Some, stays, Stopped, stops, Take, telling, Tick, true, Turn, Why, why_marked, ℕ, ℤ, ⊤, ◌+◌, ◌∙◌, ◌∷◌, ◌≡◌}
+use Rattle.session_laws.proofs.Common.{[], Accept, AnEvent as Event, ap, arith, Beat, beat_by, beat_of, becomes, Bool, by_move, cond, Connect, Connected, DidSend, done, DropConnection, Dropped, Effect, Ended, ending_of, ends, entered, eqb, EventError, exits, false, FULL, goes_unless, Held, histories, Hold, holding, if_keeps, is_at_limit, is_runnable_by, LAST_CONNECTION, leaving, leb, length, Link, List, ltb, makes_move, Mark, MOST_PENDING, MOST_PIECE, moves_by, next_tick, None, not, Now, Open, Option, Outcome, outcome_at, performed, Program, Received, Recv, refl, refused, Seen, Sent, Session, Slice, sliced, SliceEnd, Some, stays, Stopped, stops, Take, telling, Tick, true, Turn, turns_back, Why, why_marked, ℕ, ℤ, ◌&&◌, ◌+◌, ◌∙◌, ◌∷◌, ◌≡◌}
 use Rattle.debuggee.specs.declared.run.Mark.TheVariants as mark
 use Rattle.debuggee.specs.declared.run.Why.TheVariants as why
 use Rattle.session.specs.declared.event.EventError.TheVariants as error
@@ -25,15 +25,20 @@ EndsFor seen p more ending.Full = (not (is_runnable_by seen.now.link p.run) ≡ 
 EndsFor seen p more ending.Spent = more ≡ false
 EndsFor seen p more other = ⊥
 
--- why the program stops: where it meets something, its next move comes to that, and is not made
+-- why the program stops: it is marked; it is at its limit, which one that goes back has not; or its next move meets something, and is not made
 abbrev pub StopsFor : Program → Why → Type 0
+StopsFor p why.Limit = turns_back p.machine.goal ≡ false
 StopsFor p (why.Met reason) =
     (p.machine.check_due ≡ false) × ((next_tick p).outcome ≡ Stopped reason) × (stays (Stopped reason) ≡ true)
-StopsFor p other = ⊤
+StopsFor p w = (m : Mark) × (p.mark ≡ Some m) × (why_marked m ≡ w)
 
-marked_stops : (p : Program) (m : Mark) → StopsFor p (why_marked m)
-marked_stops p mark.Entry = tt
-marked_stops p other = tt
+marked_stops : (p : Program) (m : Mark) → p.mark ≡ Some m → StopsFor p (why_marked m)
+marked_stops p mark.Entry is = (mark.Entry, is, refl)
+marked_stops p mark.Pause is = (mark.Pause, is, refl)
+marked_stops p mark.Hold is = (mark.Hold, is, refl)
+
+has_limit : (back full : Bool) → (not back && full) ≡ true → back ≡ false
+has_limit back full e = grind arith
 
 -- what has to be shown of each case
 pub record ByBeat (seen : Seen) (p : Program) (more : Bool) (P : Beat → Type 0) : Type 0 where
@@ -50,28 +55,30 @@ module _ (seen : Seen) (p : Program) (more : Bool) (P : Beat → Type 0) (h : By
   moving : p.mark ≡ None → p.machine.check_due ≡ false → (m : Bool) → more ≡ m
       → P (cond (not m) (ends ending.Spent) (cond (is_at_limit seen.now p) (stops seen.now p why.Limit) (moves_by seen.now p (next_tick p).outcome)))
   moving free due true is =
-      if_keeps P (is_at_limit seen.now p) _ _ (λ _. h.stops_for why.Limit owes tt)
+      if_keeps P (is_at_limit seen.now p) _ _ (λ full. h.stops_for why.Limit owes (has_limit (turns_back p.machine.goal) _ full))
       (λ _. by_move (λ o b. (next_tick p).outcome ≡ o → P b) seen.now p (next_tick p).outcome
       (λ o stay e. h.moves owes free due is (ap stays e ∙ stay))
       (λ cause e. h.stops_for (why.Met (met.Exception cause)) owes (due, e, refl)) (λ code e. h.exits_with code owes due e) refl)
   moving free due false is = h.ends_for ending.Spent owes is
 
   unless : (m : Option Mark) → p.mark ≡ m → P (goes_unless m seen.now p more)
-  unless (Some m) is = h.stops_for (why_marked m) owes (marked_stops p m)
+  unless (Some m) is = h.stops_for (why_marked m) owes (marked_stops p m is)
   unless None is = if_keeps P p.machine.check_due _ _ (h.enters owes is) (λ due. moving is due more refl)
 
-owing : (seen : Seen) (p : Program) (more : Bool) (P : Beat → Type 0) → ByBeat seen p more P → (owed : Option Tick) → p.owed ≡ owed
-    → P (beat_by owed seen p more)
-owing seen p more P h (Some tick) is = h.tells tick is
-owing seen p more P h None is =
-    if_keeps P (not (is_runnable_by seen.now.link p.run)) _ _ (h.ends_for ending.Idle is)
-    (λ runs. if_keeps P (ltb FULL seen.waits) _ _ (λ full. h.ends_for ending.Full is (runs, full))
-    (λ _. unless seen p more P h is p.mark refl))
+-- of a program that there is
+pub by_program : (seen : Seen) (p : Program) (more : Bool) (P : Beat → Type 0) → ByBeat seen p more P → P (beat_by p.owed seen p more)
+by_program seen p more P h = by p.owed refl where
+  by : (owed : Option Tick) → p.owed ≡ owed → P (beat_by owed seen p more)
+  by (Some tick) is = h.tells tick is
+  by None is =
+      if_keeps P (not (is_runnable_by seen.now.link p.run)) _ _ (h.ends_for ending.Idle is)
+      (λ runs. if_keeps P (ltb FULL seen.waits) _ _ (λ full. h.ends_for ending.Full is (runs, full))
+      (λ _. unless seen p more P h is p.mark refl))
 
 pub by_beat : (program : Option Program) (seen : Seen) (more : Bool) (P : Beat → Type 0) → (program ≡ None → P (ends ending.Idle))
     → ((p : Program) → program ≡ Some p → ByBeat seen p more P) → P (beat_of program seen more)
 by_beat None seen more P none some = none refl
-by_beat (Some p) seen more P none some = owing seen p more P (some p refl) p.owed refl
+by_beat (Some p) seen more P none some = by_program seen p more P (some p refl)
 
 -- ---- an event
 

@@ -1,5 +1,5 @@
 -- Wherever what an editor sends is cut, the session takes the same of it.
-use Rattle.session_laws.proofs.Common.{[], Accept, accepted_on, accepting, All, All-nil, All-push, all_joined, Answer, ap, append_assoc, arith, Arrivals, Ask, asks_of, Beginning, BODY_LIMIT, Bool, Busy, Closing, cond, CutsDoNotMatter, done, each_life, Effect, Err, false, fault_of_reading, FaultIsOfTheBytes, Happened, histories, inl, inr, is_some, IsTaken, joined, leb, length, Life, Link, List, ltb, MOST_PENDING, MOST_PIECE, None, Ok, Option, outcome, Outcome, outcome_at, performed, PieceTooLong, Reached, reached_by_acts, read_on, Reading, reading_after, reading_of, reading_of-append, Received, Recv, refl, refused, RequestsAreRead, Session, Some, subst, sym, Tail, tail_kept, true, up_to_fault, with_bodies, ℕ, ◌++◌, ◌∙◌, ◌∷◌, ◌≡◌, ◌⊎◌}
+use Rattle.session_laws.proofs.Common.{[], Accept, accepted_on, accepting, all_joined, Answer, ap, append_assoc, arith, Arrivals, Ask, asks_of, Beginning, BODY_LIMIT, Bool, Busy, Closing, cond, CutsDoNotMatter, done, Effect, Err, false, fault_of_reading, FaultIsOfTheBytes, Happened, histories, inl, inr, is_some, IsTaken, joined, leb, length, Link, List, ltb, MOST_PENDING, MOST_PIECE, None, Ok, Option, outcome, Outcome, outcome_at, performed, PieceTooLong, Reached, read_on, Reading, reading_after, reading_of, Received, Recv, refl, refused, RequestsAreRead, Session, Some, subst, sym, Tail, tail_kept, true, with_bodies, ℕ, ◌++◌, ◌∙◌, ◌∷◌, ◌≡◌, ◌⊎◌}
 use Rattle.session.specs.declared.event.LinkFault.{LinkFault}
 use Rattle.session_laws.proofs.Waiting.{Kept, always_kept, always_lived, by_link}
 use Rattle.session_laws.proofs.Reading.{fault_stays, goes_on, whole_goes_on, up_to_fault-append, ends_at_fault, reading_after-append, none_if}

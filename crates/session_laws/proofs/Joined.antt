@@ -1,10 +1,12 @@
 -- Two slices, one after the other, leave what one of all their moves leaves.
-use Rattle.session_laws.proofs.Common.{[], Accept, Act, after_beat, Agree, answering, Answering, ap, append-nil, arith, beat, Beat, beat_by, beat_of, beats, beats_on, Become, becomes, Bool, CameTo as Outcome, Close, closing, concluded, concludes, cond, cond-false, cond-true, Debuggee, ended, Ended, ending_of, ends, enough, Event as IsEvent, exit_events, exits, false, from_here, FULL, goes_unless, halts, HangUp, histories, if_keeps, inl, inr, is_active, is_configuring, is_runnable_by, is_running, length, List, logged, lt-ltb, ltb, ltb-false, ltb-true, map, Mark, nat_tests, next_beat, next_by, None, not, Now, Open, Option, output_events, Pending, performed, performed_append, performed_on, Program, Refer, refl, Replied as Answered, replied_on, Reply, Response, response_to, Seen, Session, sliced, SliceEnd, SlicesEnd, SlicesJoin, Slicing, Some, stop_event, stopped, Stopped, stops, subst, suc, sym, Take, Tell, telling, tells, Tick, told, Told, true, Went, Why, with_beat, zero, ℕ, ℤ, ◌&&◌, ◌++◌, ◌+◌, ◌<◌, ◌∙◌, ◌∷◌, ◌≡◌, ◌≤◌, ◌⊎◌}
+use Rattle.session_laws.proofs.Common.{[], Accept, Act, after_beat, Agree, AnEvent, answering, Answering, ap, append-nil, arith, beat, Beat, beat_of, beats, beats_on, Become, becomes, Bool, CameTo as Outcome, closing, concluded, concludes, Debuggee, Effect, ended, Ended, ending_of, ends, enough, Event as IsEvent, exit_events, exits, false, from_here, halts, HangUp, histories, if_keeps, inl, inr, is_active, is_running, List, logged, ltb, map, nat_tests, next_beat, next_by, None, Now, Open, Option, output_events, Pending, performed, performed_append, performed_on, Program, Refer, refl, Replied as Answered, replied_on, Reply, Response, response_to, Seen, Session, Slice, sliced, SliceEnd, SlicesEnd, SlicesJoin, Slicing, Some, stop_event, stopped, Stopped, stops, subst, suc, sym, Tell, telling, tells, Tick, told, Told, true, Went, Why, with_beat, zero, ℕ, ℤ, ◌++◌, ◌+◌, ◌∙◌, ◌∷◌, ◌≡◌, ◌≤◌, ◌⊎◌}
 use Rattle.debuggee.specs.declared.run.Why.TheVariants as why
 use Rattle.session.specs.declared.event.SliceEnd.TheVariants as ending
 use Rattle.session_laws.proofs.ByForms.{accepts_by, agrees_by, hangs_by, opens_by, refers_by}
 use Rattle.session_laws.proofs.Cases.{by_beat, ends_with, EndsFor, tells_tick}
 use Rattle.session_laws.proofs.Turning.{said_debuggee}
+use Rattle.session.specs.Effects.{after_all}
+use Rattle.session_laws.specs.Joining.{JoinedLeadToTheSame}
 use Rattle.session.proofs.Enough.{is_sliced, each_ends, stays_ended, Follows}
 
 -- ---- what changes no program
@@ -62,6 +64,11 @@ answering_debuggee a s =
 
 abbrev pub program_of : Session → Option Program
 program_of s = s.now.debuggee.program
+
+-- what holds of the program holds after such acts
+pub still_holds : (P : Option Program → Type 0) (acts : List Act) (s : Session) → NoneBecome acts → P (program_of s)
+    → P (program_of (performed histories acts s))
+still_holds P acts s none h = subst (λ (d : Debuggee). P d.program) (sym (same_debuggee acts s none)) h
 
 -- a program becomes this, and then something is told
 pub becomes_program : (now : Now) (p : Program) (acts : List Act) (s : Session) → NoneBecome acts
@@ -367,3 +374,16 @@ slices_end s n =
       λ on. let never : Some there.0 ≡ None = sym there.1 ∙ on in cc,
       λ more. stays_ended histories histories_follow n (enough n) more s there.0 there.1,
     )
+
+-- ---- events whose slices are joined
+
+pub joined_lead_to_the_same : JoinedLeadToTheSame
+joined_lead_to_the_same [] joined is s = ap (λ (l : List AnEvent). after_all histories l s) is
+joined_lead_to_the_same (e ∷ events) [] is s = absurd is
+joined_lead_to_the_same (e ∷ events) (j ∷ joined) (inl (same, more)) s =
+    ap (λ (x : AnEvent). after_all histories joined (Effect s x)) same ∙ joined_lead_to_the_same events joined more (Effect s e)
+joined_lead_to_the_same (e ∷ events) (j ∷ joined) (inr (a, b, first, whole, more)) s =
+    ap (λ (x : AnEvent). after_all histories joined (Effect s x)) whole
+    ∙ ap (after_all histories joined) (sym (slices_join s a b).0)
+    ∙ joined_lead_to_the_same events (Slice b ∷ joined) more (Effect s (Slice a))
+    ∙ ap (λ (x : AnEvent). after_all histories events (Effect s x)) (sym first)

@@ -1,8 +1,8 @@
 -- A reference is answered in its stop and on its connection, and is stale after that.
-use Rattle.session_laws.proofs.Common.{[], All, All-head, All-tail, answer_by, Answering, ap, arith, Beginning, Bool, bytes_eq, codes, Command, Debugged, demand, demand_of, Done, eqb, eqb-false, eqb-true, Err, Evaluate, false, first_refusal, found_in, given_of, goes_on, Happened, Hart, has_ended, has_name, has_none, has_room, if_keeps, IfSome, inl, InOrder, inr, is_cancelled, is_no_thread, is_of_other_kind, is_repeat, is_taken_in, IsStale, IsUnknown, Link, List, looks_on, map, MatchBool, name_answer, names_none, negsuc, None, not, Now, Ok, Option, outcome_next, Phase, pos, Program, Reached, Reference, reference_in, ReferencesAreGood, ReferencesLast, refl, Refusal, refusals, Refused, Replied as Outcome, Request, ResponseBody, Result, Run, run_of, Scopes, Session, set_in, setting_of, SetVariable, SetVariableArguments, shows_by, slice_get, Some, subst, suc, success_of, sym, Target, Terms, true, unless_zero, unmet, value_of as value_in, Variables, WasIssued, where_so, without_connection, zero, ℕ, ℤ, ⊤, ◌&&◌, ◌++◌, ◌+◌, ◌==◌, ◌↔◌, ◌∙◌, ◌∷◌, ◌≡◌}
+use Rattle.session_laws.proofs.Common.{[], All, All-head, All-tail, answer_by, ap, arith, Beginning, Bool, bytes_eq, codes, Command, Debugged, demand, demand_of, Done, eqb, eqb-false, eqb-true, Err, Evaluate, false, first_refusal, found_in, given_of, goes_on, Happened, Hart, has_ended, has_none, if_keeps, IfSome, inl, InOrder, inr, is_cancelled, is_no_thread, is_of_other_kind, is_repeat, is_taken_in, IsStale, IsUnknown, Link, List, looks_on, map, MatchBool, name_answer, names_none, negsuc, None, not, Now, Ok, Option, outcome_next, Phase, pos, Program, Reached, Reference, reference_in, ReferencesAreGood, ReferencesLast, refl, Refusal, refusals, Refused, Replied as Outcome, Request, ResponseBody, Result, Run, run_of, Scopes, Session, set_in, setting_of, SetVariable, SetVariableArguments, shows_by, slice_get, Some, subst, suc, success_of, sym, Target, Terms, true, unless_zero, Variables, WasIssued, where_so, without_connection, zero, ℕ, ℤ, ⊤, ◌&&◌, ◌+◌, ◌↔◌, ◌∙◌, ◌∷◌, ◌≡◌}
 use Rattle.std.proofs.lemmas.Option.{same_Some}
 use Rattle.std.specs.Result.{result_err}
-use Rattle.answers.specs.Evaluate.{if_valued, unless_refused, valued}
+use Rattle.answers.specs.Evaluate.{unless_refused, valued}
 use Rattle.answers.specs.Expressions.{expression_of}
 use Rattle.answers.specs.Scopes.{body_by as scopes_by, given_by}
 use Rattle.answers.specs.Targets.{frame_refusal, if_frame, refused, target_of}
@@ -13,18 +13,13 @@ use Rattle.protocol.specs.declared.variables.VariablesArguments.{VariablesArgume
 use Rattle.protocol.specs.declared.refusal.Refusal.TheVariants as refusal
 use Rattle.protocol.specs.declared.request.Request.{Request as ARequest}
 use Rattle.queues.specs.declared.pending.Fate.{Fate}
-use Rattle.expressions.specs.Trees.{Tree}
-use Rattle.expressions.specs.Values.{value_of}
-use Rattle.expressions.specs.declared.error.ExprFault.{ExprFault}
-use Rattle.handlers.specs.declared.demand.Demand.{Demand}
+use Rattle.breakpoints.specs.Trees.{Tree}
 use Rattle.handlers.specs.SetVariable.{sets_by, sets_on}
 use Rattle.rv32i.specs.Names.{number_named}
-use Rattle.variables.specs.Stack.{stack_words}
 use Rattle.session_laws.proofs.Issuing.{IsMade, Refers, always_refers}
 use Rattle.variables.specs.References.{found_among, next_after}
 use Rattle.variables.specs.declared.error.FindError.{FindError}
 use Rattle.variables.specs.declared.error.FindError.TheVariants.{Unknown, Stale}
-use Rattle.variables.specs.declared.target.Target.TheVariants as target
 
 -- ---- what is found of all that were issued
 

@@ -1,5 +1,4 @@
 pub mod Common
-pub mod Firsts
 pub mod ByForms
 pub mod Cases
 pub mod Waiting
@@ -18,3 +17,5 @@ pub mod Answered
 pub mod Retiring
 pub mod Stopping
 pub mod Calls
+pub mod Messages
+pub mod Headline

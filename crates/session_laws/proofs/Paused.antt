@@ -1,13 +1,12 @@
 -- A program that runs and is marked retires no instruction.
-use Rattle.session_laws.proofs.Common.{[], Accept, Act, and_right, AnEvent as Event, answer_to, Answered as AnsweredRequest, answering, Answering, ap, arith, beat, Beat, beats, Bool, by_success, BySuccess, bytes_eq, CameTo, Command, concluded, Cut, Debuggee, demand_of, DidTurn, Disconnects, done, EditorLeaves, Effect, ended, ending_of, enough, false, first_mark, first_run, given_of, goes_on, Happened, histories, inl, inr, is_running, is_some, is_success, IsAtRest, IsMarked, leaves, Link, List, ltb, Mark, marked, marked_by, MarkedRetiresNone, MatchOption, Meets, name_asked, name_of, next_by, None, Now, of_answer, OfEvent, on_program, Open, Option, Outcome, Pause, PauseMarks, Pauses, Pending, performed, Program, refl, restarted, RetiresNone, RetiresNoneIn, Run, run_of, Session, SetBreakpoints, SetVariable, Slice, SliceEnd, Slicing, Some, subst, suc, success_of, sym, telling, Terms, Tick, told, true, Turn, Wanted, Went, Whole, with_list, WriteMemory, zero, ℕ, ◌&&◌, ◌∙◌, ◌∷◌, ◌≡◌, ◌⊎◌}
+use Rattle.session_laws.proofs.Common.{[], Accept, and_right, AnEvent as Event, answer_to, answering, Answering, ap, arith, beat, Beat, beats, Bool, by_success, BySuccess, bytes_eq, CameTo, Command, concluded, Cut, Debuggee, demand_of, Disconnects, EditorLeaves, Effect, ended, ending_of, enough, false, first_mark, first_run, given_of, goes_on, Happened, histories, inl, inr, is_running, is_some, is_success, IsAtRest, IsMarked, leaves, List, ltb, Mark, marked, marked_by, MarkedRetiresNone, MatchOption, Meets, name_asked, name_of, next_by, None, Now, of_answer, OfEvent, on_program, Open, Option, Pause, PauseMarks, Pauses, Pending, performed, Program, refl, restarted, RetiresNone, RetiresNoneIn, Run, run_of, Session, SetBreakpoints, SetVariable, Slice, SliceEnd, Slicing, Some, subst, suc, success_of, sym, Terms, Tick, told, true, Turn, Wanted, Went, Whole, with_list, WriteMemory, zero, ℕ, ◌&&◌, ◌∙◌, ◌∷◌, ◌≡◌, ◌⊎◌}
 use Rattle.debuggee.specs.declared.run.Mark.TheVariants as mark
 use Rattle.debuggee.specs.declared.run.Run.TheVariants as run
 use Rattle.protocol.specs.declared.disconnect.TheConstants.{NAME as DISCONNECT}
 use Rattle.protocol.specs.declared.pause.TheConstants.{NAME as PAUSE}
-use Rattle.session.specs.declared.event.Turned.TheVariants as turned
-use Rattle.session_laws.proofs.Answered.{ByTurn, by_turn, the_answered}
+use Rattle.session_laws.proofs.Answered.{by_turn}
 use Rattle.session_laws.proofs.Cases.{by_beat, by_effect, tells_tick}
-use Rattle.session_laws.proofs.Joined.{exits_program, halts_program, NoneBecome, program_of, same_debuggee, telling_program}
+use Rattle.session_laws.proofs.Joined.{exits_program, halts_program, NoneBecome, program_of, still_holds, telling_program}
 pub use Rattle.session_laws.proofs.Joined.{answering_debuggee}
 
 abbrev Marked : Option Program → Type 0
@@ -167,16 +166,14 @@ event_passes : (e : Event) (s : Session) → IsMarked s.now.debuggee → EditorL
 unfolding NoneBecome
 event_passes e s h = by_effect s (λ e t. EditorLeaves s e ⊎ Waits (program_of t)) (record {
   refuses = λ _ _. inr (inl h);
-  opens = inr (stays (Open ∷ []) tt);
-  accepts = λ piece. inr (stays (Accept piece ∷ []) tt);
+  opens = inr (still_holds Waits (Open ∷ []) s tt (inl h));
+  accepts = λ piece. inr (still_holds Waits (Accept piece ∷ []) s tt (inl h));
   turns = λ file. turn_passes file s h;
   slices = λ _. inr (inl h);
   holds = inr (on_waits (marked mark.Hold) (program_of s) h (λ p r m. marked_waits p.run mark.Hold p r m));
   takes = λ _. inr (inl h);
   drops = λ l is. inl (ap is_some is);
-}) (λ n. inr (slept n (enough n) s h).waits) e where
-  stays : (acts : List Act) → NoneBecome acts → Waits (program_of (performed histories acts s))
-  stays acts none = subst (λ (d : Debuggee). Waits d.program) (sym (same_debuggee acts s none)) (inl h)
+}) (λ n. inr (slept n (enough n) s h).waits) e
 
 retires_none : (e : Event) (s : Session) → IsMarked s.now.debuggee → RetiresNone s (Whole e)
 retires_none (Slice n) s h = (slept n (enough n) s h).none

@@ -1,5 +1,5 @@
 -- Each message is proper, and says what is so of the program's run; and `initialize` succeeds once at most on a connection.
-use Rattle.session_laws.proofs.Common.{[], All, All-nil, All-push, All-weaker, answer_on, answer_to, Answering, AnswersAreProper, arith, AsksLinesWithin, Beginning, Bool, by_success, BySuccess, codes, Command, Done, each_life, Event as IsEvent, false, first_run, given_of, Happened, Has, has_program, IfOk, initializes, initializes_by, InitializesOnce, is_plain, is_resume, is_running, is_success, is_taken_in, IsNarrowRow, IsPlain, IsProperEvent, Life, life_of, Link, List, Looks, Message, name_asked, name_of, None, not_absent, Now, number_of, of_answer, Ok, Option, Pending, Phase, Program, Reached, refl, Refusal, Response, response_to, ResponseBody, restarted, Result, resumed, Run, RunsAreTold, RunsAs, Said, said_next, saying, SaysItsRun, seen_in, Session, SetsList, Setting, Some, subst, sym, Terms, times_initialized, Told, true, Wanted, ℕ, ◌&&◌, ◌++◌, ◌+◌, ◌<◌, ◌^◌, ◌∙◌, ◌∷◌, ◌≡◌, ◌≤◌}
+use Rattle.session_laws.proofs.Common.{[], All, All-nil, All-push, All-weaker, answer_on, answer_to, Answering, AnswersAreProper, arith, AsksLinesWithin, Beginning, Bool, by_success, BySuccess, codes, Command, Done, each_life, Event as IsEvent, false, first_run, given_of, Happened, Has, has_program, IfOk, initializes, initializes_by, InitializesOnce, is_plain, is_resume, is_running, is_success, is_taken_in, IsNarrowRow, IsPlain, Life, life_of, Link, List, Looks, Message, name_asked, name_of, None, not_absent, Now, number_of, of_answer, Ok, Option, Pending, Phase, Program, Reached, refl, Refusal, Response, response_to, ResponseBody, restarted, Result, resumed, Run, RunsAreTold, RunsAs, Said, said_next, saying, SaysItsRun, seen_in, Session, SetsList, Setting, Some, subst, sym, Terms, times_initialized, true, Wanted, ℕ, ◌&&◌, ◌++◌, ◌+◌, ◌<◌, ◌^◌, ◌∙◌, ◌∷◌, ◌≡◌, ◌≤◌}
 use Rattle.answers.proofs.Proper.{answers_are_proper as breaks_are_proper}
 use Rattle.answers.proofs.ProperLooking.{looks_are_proper}
 use Rattle.answers.proofs.ProperValues.{settings_are_proper, writings_are_proper}

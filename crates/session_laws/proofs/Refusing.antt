@@ -1,7 +1,5 @@
 -- An event that is refused changes nothing.
-use Rattle.session_laws.proofs.Common.{Act, AnEvent as Event, Applied, arith, done, Err, EventError, histories, Link, List, Ok, Option, Outcome, outcome_at, performed, refl, refused, RefusedChangesNothing, Result, Session, Slice, ◌≡◌}
-use Rattle.session_laws.proofs.Answered.{by_turn}
-use Rattle.session_laws.proofs.Cases.{by_event}
+use Rattle.session_laws.proofs.Common.{AnEvent as Event, arith, Err, EventError, histories, Link, Option, outcome_at, performed, RefusedChangesNothing, Session, Slice, ◌≡◌}
 
 unchanged : (s : Session) (link : Option Link) (e : Event) (error : EventError) → (outcome_at (histories.see s) link e).answer ≡ Err error
     → performed histories (outcome_at (histories.see s) link e).acts s ≡ s

@@ -1,5 +1,5 @@
 -- The machine of the program remembers all that has retired since it was loaded or restarted.
-use Rattle.session_laws.proofs.Common.{and_right, [], Accept, Act, AnEvent as Event, answer_to, Answered, Answering, ap, arith, assembled, back_of, beat, Beat, beats, Bool, by_success, BySuccess, CameTo as Outcome, Command, concluded, cond, Cut, Debugged, Debuggee, departed, Effect, ended, ends, enough, entered, Err, false, fault_at, first_program, first_run, given, given_of, Happened, histories, if_keeps, inl, inr, Instr, is_ended, is_running, is_success, is_to_end, is_to_stand, just_loaded, leaves, led_to, left, length, length-append, List, looked_at, ltb, makes_move, Mark, marked, marked_by, MatchResult, move_leaves, moved, next_by, next_tick, None, not, Now, of_answer, Ok, on_program, Open, Option, Outcome as Does, Pending, performed, Program, refl, restarted, Result, resumed, Run, Session, Slice, sliced, SliceEnd, Slicing, Some, start, stays, stopped, stops, subst, suc, success_of, sym, take, take_at, Terms, the_tick, Tick, told, true, Turn, turns_back, undone, undone_by, unless_fault, Wanted, Went, Whole, with_hart, with_list, word_at, written, zero, ℕ, ◌&&◌, ◌++◌, ◌+◌, ◌-◌, ◌∙◌, ◌∷◌, ◌≡◌}
+use Rattle.session_laws.proofs.Common.{and_right, [], Accept, AnEvent as Event, answer_to, Answering, ap, arith, assembled, back_of, beat, Beat, beats, Bool, by_success, BySuccess, CameTo as Outcome, Command, concluded, cond, Cut, Debugged, Debuggee, departed, Effect, ended, ends, enough, entered, Err, false, fault_at, first_program, first_run, given, given_of, Happened, histories, if_keeps, inl, inr, Instr, is_ended, is_running, is_success, is_to_end, is_to_stand, just_loaded, leaves, led_to, left, length, length-append, List, looked_at, ltb, makes_move, Mark, marked, marked_by, MatchResult, move_leaves, moved, next_by, next_tick, None, not, Now, of_answer, Ok, on_program, Open, Option, Pending, performed, Program, refl, restarted, Result, resumed, Run, Session, Slice, sliced, SliceEnd, Slicing, Some, start, stays, stopped, stops, subst, suc, success_of, sym, take, take_at, Terms, the_tick, Tick, told, true, Turn, turns_back, undone, undone_by, unless_fault, Wanted, Went, Whole, with_hart, with_list, word_at, written, zero, ℕ, ◌&&◌, ◌++◌, ◌+◌, ◌-◌, ◌∙◌, ◌∷◌, ◌≡◌}
 use Rattle.assembler.specs.Placed.{error_of}
 use Rattle.assembler.specs.declared.error.AsmError.{AsmError}
 use Rattle.course.proofs.Standing.{nothing_stands}
@@ -17,14 +17,13 @@ use Rattle.rv32i.specs.Encoding.{IsDecoding}
 use Rattle.rv32i.specs.Machine.{Machine, machine_of}
 use Rattle.session_laws.specs.Intents.{intent_of}
 use Rattle.session_laws.specs.Retiring.{FramesAreOfThePast, IsPast, PastIsRemembered, after_answer, after_move, after_next, and_next, and_retired, asks_to_load, at_address, at_pc, decoded, loads, moved_on, retired_after, retired_by, retired_in, retired_of, without_last}
-use Rattle.session_laws.proofs.Answered.{ByTurn, by_turn}
+use Rattle.session_laws.proofs.Answered.{by_turn}
 use Rattle.session_laws.proofs.Cases.{by_beat, by_effect, ends_with, enters_at, tells_tick}
-use Rattle.session_laws.proofs.Joined.{answering_debuggee, exits_program, halts_program, NoneBecome, program_of, same_debuggee, telling_program}
+use Rattle.session_laws.proofs.Joined.{answering_debuggee, exits_program, halts_program, NoneBecome, program_of, still_holds, telling_program}
 use Rattle.stepping.proofs.Determined.{one_fetched}
 use Rattle.stepping.proofs.Remembering.{ticks_remember}
 use Rattle.stepping.specs.Past.{IsChanged, Remembers, RemembersPast}
 use Rattle.stepping.specs.declared.goal.Goal.{Goal}
-use Rattle.stepping.specs.declared.goal.Goal.TheVariants.{Go}
 
 -- ---- the machine stays as it is, but for what no past has
 
@@ -310,16 +309,14 @@ other_past : (e : Event) (s : Session) (retired : List Retired) → IsPast (prog
 unfolding NoneBecome
 other_past e s retired h = by_effect s (Unless s retired) (record {
   refuses = λ _ _ _. h;
-  opens = λ _. keeps (Open ∷ []) tt;
-  accepts = λ piece _. keeps (Accept piece ∷ []) tt;
+  opens = λ _. still_holds (λ program. IsPast program retired) (Open ∷ []) s tt h;
+  accepts = λ piece _. still_holds (λ program. IsPast program retired) (Accept piece ∷ []) s tt h;
   turns = λ file is. subst (IsPast (program_of (Effect s (Turn file)))) is (turn_past file s retired h);
   slices = λ _ _. h;
   holds = λ _. on_past (marked mark.Hold) (λ p. marked_keeps p.run mark.Hold p) (program_of s) retired h;
   takes = λ _ _. h;
   drops = λ _ _ _. on_past left same (program_of s) retired h;
-}) (λ n is. subst (IsPast (program_of (sliced histories n s).state)) is (slice_past n (enough n) s retired h)) e where
-  keeps : (acts : List Act) → NoneBecome acts → IsPast (program_of (performed histories acts s)) retired
-  keeps acts none = subst (λ (d : Debuggee). IsPast d.program retired) (sym (same_debuggee acts s none)) h
+}) (λ n is. subst (IsPast (program_of (sliced histories n s).state)) is (slice_past n (enough n) s retired h)) e
 
 event_past : (e : Event) (s : Session) (retired : List Retired) → IsPast (program_of s) retired
     → IsPast (program_of (Effect s e)) (and_retired s e retired)

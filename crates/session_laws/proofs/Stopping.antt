@@ -1,5 +1,5 @@
 -- A slice stops where a run stops.
-use Rattle.session_laws.proofs.Common.{[], Act, ap, arith, beat, Beat, beat_by, beat_of, beats, Bool, CameTo as Outcome, concluded, cond, Debugged, Ended, ended, entered, Enters, entry_checked, entry_tick, false, GoesBack, GoOn, histories, hit_at_pc, if_keeps, IfSome, Instr, is_configuring, is_runnable_by, is_running, IsTick, IsTrue, List, ltb, makes_move, MatchBool, move_leaves, moved, Moves, next_by, next_tick, None, not, number_after, Ok, Option, outcome_of, owing, owing_by, performed, Program, refl, Result, Run, run_after, run_left, Says, Session, Settles, sliced, SliceEnd, Slicing, Some, stays, stopped, Stopped, subst, suc, sym, telling, the_tick, Tick, tick_of_entry, told, true, turns_back, Went, Why, zero, ℕ, ℤ, ◌&&◌, ◌*◌, ◌+◌, ◌∙◌, ◌≡◌}
+use Rattle.session_laws.proofs.Common.{[], Act, ap, arith, beat, Beat, beat_by, beat_of, beats, Bool, CameTo as Outcome, concluded, cond, Debugged, Ended, ended, entered, entry_checked, entry_tick, false, GoOn, histories, hit_at_pc, if_keeps, IfSome, Instr, is_configuring, is_runnable_by, is_running, IsTick, IsTrue, List, ltb, makes_move, move_leaves, moved, next_by, next_tick, None, not, number_after, Ok, Option, outcome_of, owing, owing_by, performed, Program, refl, Result, Run, run_after, run_left, Says, Session, Settles, sliced, SliceEnd, Slicing, Some, stays, stopped, Stopped, subst, suc, sym, telling, the_tick, Tick, tick_of_entry, told, true, turns_back, Went, Why, zero, ℕ, ℤ, ◌&&◌, ◌*◌, ◌+◌, ◌∙◌, ◌≡◌}
 use Rattle.std.specs.declared.alloc.AllocError.{AllocError}
 use Rattle.breakpoints.specs.declared.breakpoint.Hit.{Hit}
 use Rattle.debuggee.proofs.Advancing.{going_names_none}

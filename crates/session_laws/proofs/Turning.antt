@@ -1,5 +1,5 @@
 -- What is kept by each event, where answers are looked at whole.
-use Rattle.session_laws.proofs.Common.{[], accepting, Act, All-take, and_parts, AnEvent as Event, answer_to, answering, Answering, answers_next, ap, append-nil, arith, assembled, at_next_stop, beat, Beat, beats, Become, becomes, Beginning, Bool, by_success, BySuccess, CameTo, Close, closing, Command, concludes, Debuggee, departed, Effect, ended, Ended, enough, Err, eqb, Event as IsEvent, exit_events, exits, false, first_address, first_program, first_run, FULL, given_of, GivesBytes, halts, HangUp, Happened, Hart, Has, has_none, has_room, HasImage, HasSignedCode, histories, ids_are_words, if_keeps, IfOk, IfSome, is_active, is_ended, is_running, is_to_end, is_to_stand, IsProperEvent, IsStop, leb, left, length, Link, List, log_event, logged, ltb, ltb-true, map, marked, MatchOption, Message, name_answer, nat_tests, next_by, next_of, next_turn, None, not, Now, Numbers, of_answer, Ok, on_program, Open, Option, Outcome, outcome_at, output_events, Pending, performed, performed_append, performed_on, Program, reached, Reached, read_on, reason_of, referred, refl, Refusal, replied_on, Response as IsResponse, response_to, restarted, Result, resumed, Run, run_of, said_on, saying, SaysItsRun, Seen, seen_in, Session, set_in, set_variable, Setting, setting_of, SetVariableArguments, Slice, SliceEnd, Some, start, stop_event, stopped, Stopped, subst, suc, sym, Take, take, Target, Tell, telling, tells, Terms, text_of, Tick, told, Told, true, Turn, turn_by, turn_of, value_of, Went, Why, with_hart, with_list, with_program, with_targets, written, zero, ℕ, ℤ, ◌++◌, ◌+◌, ◌<◌, ◌^◌, ◌∙◌, ◌∷◌, ◌≡◌, ◌≤◌}
+use Rattle.session_laws.proofs.Common.{[], accepting, Act, All-take, AnEvent as Event, answer_to, answering, Answering, answers_next, ap, arith, assembled, at_next_stop, beat, beats, Become, becomes, Beginning, Bool, by_success, BySuccess, CameTo, Close, closing, Command, concludes, Debuggee, departed, Effect, ended, Ended, enough, Err, eqb, Event as IsEvent, exit_events, exits, false, first_address, first_program, first_run, FULL, given_of, GivesBytes, halts, HangUp, Happened, Hart, Has, has_none, has_room, HasImage, HasSignedCode, histories, ids_are_words, if_keeps, IfOk, IfSome, is_active, is_ended, is_running, is_to_end, is_to_stand, IsProperEvent, IsStop, left, length, Link, List, log_event, logged, ltb, ltb-true, map, marked, MatchOption, Message, name_answer, nat_tests, next_by, next_of, next_turn, None, Now, Numbers, of_answer, Ok, on_program, Open, Option, Outcome, outcome_at, output_events, Pending, performed, performed_append, performed_on, Program, reached, Reached, read_on, reason_of, referred, refl, Refusal, replied_on, Response as IsResponse, response_to, restarted, Result, resumed, Run, run_of, said_on, saying, SaysItsRun, seen_in, Session, set_in, set_variable, Setting, setting_of, SetVariableArguments, Slice, SliceEnd, Some, start, stop_event, stopped, Stopped, subst, suc, sym, Take, take, Target, Tell, telling, tells, Terms, text_of, Tick, told, Told, true, Turn, turn_by, turn_of, value_of, Went, Why, with_hart, with_list, with_program, with_targets, written, zero, ℕ, ℤ, ◌+◌, ◌<◌, ◌^◌, ◌∙◌, ◌∷◌, ◌≡◌, ◌≤◌}
 use Rattle.answers.specs.Targets.{target_of}
 use Rattle.assembler.proofs.Narrow.{assembled_is_narrow}
 use Rattle.debuggee.specs.declared.run.Mark.TheVariants as mark
@@ -13,7 +13,7 @@ use Rattle.range_laws.specs.Debugging.{HartInRange}
 use Rattle.range_laws.specs.Machines.{IsByte, IsWord}
 use Rattle.rv32i.specs.Laws.{IsSignedWord}
 use Rattle.session.proofs.Orderly.{AreWords, Orderly, OrderlyIn, OrderlyOf, departed_orderly, ended_orderly, entered_orderly, exit_is_proper, first_run_orderly, hart_orderly, written_orderly, ids_are_words as named_are_words, left_orderly, listed_orderly, loaded_orderly, log_is_proper, marked_orderly, moved_orderly, next_fits, output_is_proper, owed_fits, restarted_orderly, resumed_orderly, stop_is_proper, stopped_orderly, told_orderly, with_orderly}
-use Rattle.session.specs.Limits.{are_limits, greatest_limits, is_within}
+use Rattle.session.specs.Limits.{are_limits}
 use Rattle.session.specs.declared.limits.Limits.{Limits}
 use Rattle.session_laws.proofs.Asked.{AreRead, IsRead, asks_that_wait, joined_are_read}
 use Rattle.session_laws.proofs.ByForms.{accepts_by, hangs_by, on, on_with, opens_by, said_by, with_change}

@@ -1,7 +1,7 @@
 -- What is kept of each connection: its bytes, those that were taken and those that wait; the numbers of its messages; and its requests,
 -- of which those that are not answered wait. And the lives are at their numbers.
 use Rattle.std.proofs.lemmas.List.{get_or-append-add}
-use Rattle.session_laws.proofs.Common.{[], All, All-nil, All-push, answered_as, answered_in, AnswersInOrder, ap, append-nil, append_assoc, AreNumberedFrom, arith, asked_as, asked_in, asks_of, Beginning, BODY_LIMIT, Bool, bytes_of, cond, drop, each_life, eqb, Event, EveryByteIsTakenOrWaits, false, fault_of_reading, flat_map, frame_said, get_or, Happened, is_some, length, length-append, Life, life_of, Link, List, LivesAreNumbered, map, map-append, Message, names, nat_tests, no_life, None, NumbersRise, Option, Pending, pending_as, Reached, reached_by_acts, read_on, Reading, reading_of, refl, Response, response_to, Said, said_next, saying, Session, Some, subst, suc, sym, Tail, tail_kept, take, take-append-drop, true, up_to_fault, with_said, with_taken, zero, ℕ, ◌++◌, ◌+◌, ◌<◌, ◌∙◌, ◌∷◌, ◌≡◌}
+use Rattle.session_laws.proofs.Common.{[], All, All-nil, All-push, answered_as, answered_in, AnswersInOrder, ap, append-nil, append_assoc, AreNumberedFrom, arith, asked_as, asked_in, asks_of, Beginning, BODY_LIMIT, Bool, bytes_of, cond, drop, each_life, eqb, Event, EveryByteIsTakenOrWaits, false, fault_of_reading, flat_map, frame_said, get_or, Happened, is_some, length, length-append, Life, life_of, Link, List, LivesAreNumbered, map, map-append, Message, names, nat_tests, no_life, None, NumbersRise, Option, Pending, pending_as, Reached, reached_by_acts, read_on, Reading, reading_of, refl, Response, response_to, Said, said_next, saying, Session, Some, subst, sym, Tail, tail_kept, take, take-append-drop, true, up_to_fault, with_said, with_taken, ℕ, ◌++◌, ◌+◌, ◌<◌, ◌∙◌, ◌∷◌, ◌≡◌}
 use Rattle.session.specs.declared.event.LinkFault.{LinkFault}
 use Rattle.session_laws.proofs.Reading.{asks_up_to, fault_up_to, none_if, nothing_is_read, nothing_is_wrong, up_to_fault_all, whole, whole_goes_on}
 use Rattle.framing.proofs.Pasts.{nothing_stands}

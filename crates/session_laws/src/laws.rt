@@ -1,14 +1,55 @@
-//! What holds of a session whatever happened, as theorems: functions that do nothing, whose
-//! clauses say it.
-ghost use Rattle.std.specs.Prelude.{◌≡◌, List, map};
+//! What holds of a session whatever happened, of its messages, and of what an editor knows by them, as theorems: functions that do nothing,
+//! whose clauses say it.
+ghost use Rattle.std.specs.Prelude.{◌≡◌, ℕ, List, map};
 ghost use Rattle.session.specs.declared.event.Event.{Event as AnEvent};
 ghost use Rattle.session.specs.Reached.{Happened, Reached, Whole};
 ghost use Rattle.session.specs.Sessions.{After, Beginning as ABeginning, Session as ASession};
 ghost use Rattle.session_laws.specs.Calls.{CallsLead, LeadsOn};
+ghost use Rattle.session_laws.specs.Concluding.{WhatIsKnownWasSo};
+ghost use Rattle.session_laws.specs.Headline.{MirrorsHoldWhatWasSo};
+ghost use Rattle.session_laws.specs.Joining.{JoinedLeadToTheSame};
+ghost use Rattle.session_laws.specs.Known.{SuccessesAreKnown};
 ghost use Rattle.session_laws.specs.Laws as law;
-ghost use Rattle.session_laws.specs.Stopping.{SlicesStopThere};
-ghost use Rattle.session_laws.specs.Retiring.{FramesAreOfThePast, PastIsRemembered};
 ghost use Rattle.session_laws.specs.Lifetimes.{ReferencesLast, ReferencesRise, ReferencesStand};
+ghost use Rattle.session_laws.specs.Messages.{HasPath, MessagesAreReadable, MessagesAreShort, TextsAreUtf8};
+ghost use Rattle.session_laws.specs.News.{IsSeenAfter};
+ghost use Rattle.session_laws.specs.Printed.{WhatIsPrintedRuns};
+ghost use Rattle.session_laws.specs.References.{ReferencesWereGood};
+ghost use Rattle.session_laws.specs.Retiring.{FramesAreOfThePast, PastIsRemembered};
+ghost use Rattle.session_laws.specs.Stopping.{SlicesStopThere};
+
+/// For every list of events (requests cut anywhere, repeated or cancelled, slices, bytes taken, drops, connections, restarts), an editor's
+/// mirror, fed any prefix of the bytes of its connection, holds only facts that were true of the machine when the last whole message in that
+/// prefix was queued, and a reference is answered only in the stop and on the connection that issued it.
+pub fn what_an_editor_concludes_was_true()
+    ensures facts { (from : ABeginning) (happened : List Happened)
+        → HasPath from → MirrorsHoldWhatWasSo (Reached from happened) }
+    ensures references { (from : ABeginning) (happened : List Happened)
+        → ReferencesWereGood from happened }
+{}
+
+/// Whatever happens, each success answers the first request that came with its number, and names it.
+pub fn successes_are_known()
+    ensures { (from : ABeginning) (happened : List Happened) → SuccessesAreKnown (Reached from happened) }
+{}
+
+/// Whatever happens, what an editor knows by the first bytes of a connection, however many it got, was so when the last message that lies
+/// wholly in them was queued: how the program runs, its breakpoints, its frames, its registers and its memory.
+pub fn what_an_editor_knows_was_so()
+    ensures { (from : ABeginning) (happened : List Happened) (connection count : ℕ)
+        → WhatIsKnownWasSo (Reached from happened) connection count }
+{}
+
+/// Whatever happens, what the program prints is told while it runs, also where it stops with it; and so is what a logpoint says.
+pub fn what_is_printed_runs()
+    ensures { (from : ABeginning) (happened : List Happened) → WhatIsPrintedRuns (Reached from happened) }
+{}
+
+/// Whatever happened, after a turn, and after a slice that makes no move, or one where nothing is left to be told before it, what can be
+/// seen is what could be seen at each message that it queued; at what the program printed or a logpoint says, while the program ran.
+pub fn what_was_seen_is_seen_after()
+    ensures { (from : ABeginning) (happened : List Happened) → IsSeenAfter (Reached from happened) }
+{}
 
 /// Whatever a session represents, after a call it represents what that leads to: what its event leaves; where a slice found no memory, what
 /// the beats that it made leave; or, where another event found none, the same as before. From what was reached that leads to
@@ -94,6 +135,12 @@ pub fn slices_join()
     ensures { (s : ASession) → law.SlicesJoin s }
 {}
 
+/// Events lead to the same where slices that follow each other are one of all their moves: so what was recorded queues the same bytes on each
+/// connection when it is played again.
+pub fn joined_events_lead_to_the_same()
+    ensures { JoinedLeadToTheSame }
+{}
+
 /// Each slice ends within the beats that are enough for its moves, so that more of them would change nothing.
 pub fn slices_end()
     ensures { (s : ASession) → law.SlicesEnd s }
@@ -137,4 +184,24 @@ pub fn references_stand()
 /// exactly where nothing comes before and the number was never issued, or in this stop for something of another kind.
 pub fn references_last()
     ensures { (from : ABeginning) (happened : List Happened) → ReferencesLast (Reached from happened) }
+{}
+
+/// Whatever happens, the texts of each message are UTF-8, where the path of the program that was given at the start is.
+pub fn texts_are_utf8()
+    ensures { (from : ABeginning) (happened : List Happened)
+        → HasPath from → TextsAreUtf8 (Reached from happened) }
+{}
+
+/// Whatever happens, the text of each message has fewer than 4,294,967,295 bytes, which is what a
+/// mirror reads of one.
+pub fn messages_are_short()
+    ensures { (from : ABeginning) (happened : List Happened)
+        → HasPath from → MessagesAreShort (Reached from happened) }
+{}
+
+/// Whatever happens, each message can be read: its texts are UTF-8, and a mirror reads all its
+/// bytes.
+pub fn messages_are_readable()
+    ensures { (from : ABeginning) (happened : List Happened)
+        → HasPath from → MessagesAreReadable (Reached from happened) }
 {}

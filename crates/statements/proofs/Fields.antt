@@ -1,40 +1,23 @@
 -- A text divided at a byte.
-use Rattle.statements.proofs.Common.{[], all_of, ap, append_assoc, arith, before_others, Bool, cond, count_by, counted, drop, Err, false, fields, fields_after, is_some, item_in, items_of, length, length-slice_split, LineError, List, map, More, nat_lt, nat_tests, None, not, Ok, onto_first, operands_in, Option, option_map, parted, parted_at, position_or_len, refl, Result, slice_split, slice_split_first, Some, sym, take, trimmed, true, Width, ℕ, ◌++◌, ◌+◌, ◌<◌, ◌==◌, ◌∙◌, ◌∷◌, ◌≡◌, ◌≤◌}
+use Rattle.statements.proofs.Common.{[], append_assoc, arith, before_others, cond_both, count_by, Err, false, fields, fields_after, is_some, Item, item_in, items_of, length, length-slice_split, LineError, List, ltb-false, More, nat_lt, nat_tests, none, None, Ok, operands_in, Option, option_map, parted, parted_at, position_or_len, refl, Result, slice_split, slice_split_first, slice_split_none, Some, trimmed, true, Width, ℕ, ◌++◌, ◌+◌, ◌<◌, ◌==◌, ◌∙◌, ◌∷◌, ◌≡◌}
 use Rattle.std.proofs.lemmas.List.Elements.{All-from_get_or}
-use Rattle.std.proofs.lemmas.List.Splits.{slice_split_none}
 use Rattle.std.proofs.lemmas.List.Sums.{fails_before_first}
-use Rattle.statements.specs.declared.items.Item.{Item}
 
--- where a text is divided first, if it is
-abbrev parts_of : Option (List ℕ × List ℕ) → List ℕ × List ℕ
-parts_of None = ([], [])
-parts_of (Some parts) = parts
+-- what holds where something is found, and where nothing is
+pub cases_found : {A : Type 0} (P : Option A → Type 0) (o : Option A) → (o ≡ None → P None) → ((a : A) → o ≡ Some a → P (Some a)) → P o
+cases_found P None none some = none refl
+cases_found P (Some a) none some = some a refl
 
-module _ (byte : ℕ) (text : List ℕ) where
-  at : ℕ
-  at = position_or_len (λ b. b == byte) text
+pub fields_none : (byte : ℕ) (text : List ℕ) → parted byte text ≡ None → fields byte text ≡ text ∷ []
+fields_none byte text h =
+    let at : ℕ = position_or_len (λ b. b == byte) text in
+    cond_both (nat_lt at (length text)) (Some at) None (λ o. parted_at text o ≡ None → fields byte text ≡ text ∷ []) (λ t e. cc)
+    (λ t e. slice_split_none (λ b. b == byte) text (All-from_get_or (λ b. (b == byte) ≡ false) text 0
+    (λ i l. fails_before_first (λ b. b == byte) text i 0 (omega (arith, ltb-false at (length text) t))))) h
 
-  pub fields_none : parted byte text ≡ None → fields byte text ≡ text ∷ []
-  unfolding at
-  fields_none h = go (nat_lt at (length text)) refl h where
-    go : (t : Bool) → nat_lt at (length text) ≡ t → parted_at text (cond t (Some at) None) ≡ None → fields byte text ≡ text ∷ []
-    go true t e = cc
-    go false t e =
-        let far : length text ≤ at = grind (arith, nat_tests) in
-        slice_split_none (λ b. b == byte) text (All-from_get_or (λ b. (b == byte) ≡ false) text 0
-        (λ i l. fails_before_first (λ b. b == byte) text i 0 (omega arith)))
-
-  pub fields_some : (prefix after : List ℕ) → parted byte text ≡ Some (prefix, after) → fields byte text ≡ prefix ∷ fields byte after
-  unfolding at
-  fields_some prefix after h = go (nat_lt at (length text)) refl h where
-    go : (t : Bool) → nat_lt at (length text) ≡ t → parted_at text (cond t (Some at) None) ≡ Some (prefix, after)
-        → fields byte text ≡ prefix ∷ fields byte after
-    go true t e =
-        let below : at < length text = grind (arith, nat_tests) in
-        let first : take at text ≡ prefix = ap (λ o. (parts_of o).0) e in
-        let rest : drop (at + 1) text ≡ after = ap (λ o. (parts_of o).1) e in
-        slice_split_first (λ b. b == byte) text 0 below ∙ rw (first, rest) refl
-    go false t e = cc
+pub fields_some : (byte : ℕ) (text prefix after : List ℕ) → parted byte text ≡ Some (prefix, after)
+    → fields byte text ≡ prefix ∷ fields byte after
+fields_some byte text prefix after h = grind (arith, nat_tests, slice_split_first (λ b. b == byte) text 0)
 
 -- there is always a first field
 pub shape : (byte : ℕ) (text : List ℕ) → (first : List ℕ) × (others : List (List ℕ)) × (fields byte text ≡ first ∷ others)
@@ -48,15 +31,10 @@ pub counted_more : (text a b c t1 t2 : List ℕ) (after : Option (List ℕ)) →
     → fields 44 t1 ≡ b ∷ fields 44 t2 → fields 44 t2 ≡ c ∷ fields_after 44 after → is_some after ≡ true → More ≡ operands_in text
 counted_more text a b c t1 t2 None some e1 e2 e3 h = cc
 counted_more text a b c t1 t2 (Some t3) some e1 e2 e3 h =
-    let s = shape 44 t3 in
-    let all : fields 44 text ≡ a ∷ b ∷ c ∷ s.0 ∷ s.1 = e1
-    ∙ ap (λ (l : List (List ℕ)). a ∷ l) (e2 ∙ ap (λ (l : List (List ℕ)). b ∷ l) (e3 ∙ ap (λ (l : List (List ℕ)). c ∷ l) s.2)) in
-    let test : (length text == 0) ≡ false = grind (arith, nat_tests) in
-    rw test (sym (ap (λ l. counted (map trimmed l)) all))
+    let test : (length text == 0) ≡ false = grind (arith, nat_tests) in rw (test, e1, e2, e3, (shape 44 t3).2) refl
 
 pub copied_some : {A B : Type 0} (f : A → B) (o : Option A) → true ≡ is_some o → is_some (option_map f o) ≡ true
-copied_some f None h = cc
-copied_some f (Some x) h = refl
+copied_some f o h = grind arith
 
 -- how much of a text is left
 abbrev pub left : Option (List ℕ) → ℕ
@@ -70,8 +48,7 @@ followed_by list (Err error) = Err error
 
 one_before : {A : Type 0} (list : List A) (a : A) (others : Result (List A) LineError)
     → followed_by list (before_others a others) ≡ followed_by (list ++ a ∷ []) others
-one_before list a (Ok more) = ap (λ l. Ok l) (sym (append_assoc list (a ∷ []) more))
-one_before list a (Err error) = refl
+one_before list a others = grind (arith, append_assoc)
 
 -- one more item of a list
 pub one_more : (all : Result (List Item) LineError) (width : Width) (list longer : List Item) (field : List ℕ)

@@ -1,5 +1,5 @@
 -- The labels that a text begins with.
-use Rattle.statements.proofs.Common.{[], ap, append_assoc, fields, join_with_byte, join_with_byte-slice_split, label_before, labels_of, labels_with, List, None, parted, rest_of, rest_with, Some, sym, ℕ, ◌++◌, ◌∙◌, ◌∷◌, ◌≡◌, refl}
+use Rattle.statements.proofs.Common.{[], ap, append_assoc, fields, join_with_byte, join_with_byte-slice_split, label_before, labels_of, List, None, parted, refl, rest_of, Some, sym, ℕ, ◌++◌, ◌∙◌, ◌∷◌, ◌≡◌}
 use Rattle.statements.proofs.Fields.{fields_none, fields_some, shape}
 
 -- without a colon there is no label

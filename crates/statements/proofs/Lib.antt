@@ -5,13 +5,10 @@ pub mod Said
 pub mod Labelling
 pub mod Runs
 pub mod Dividing
-pub mod Mild
 pub mod Numerals
 pub mod Texts
-pub mod PseudoLines
 pub mod AnyOperands
 pub mod Addresses
 pub mod Places
 pub mod DataLines
 pub mod Refused
-pub mod PlainLines

@@ -1,7 +1,6 @@
 -- What a line says, where memory was left.
-use Rattle.statements.proofs.Common.{ap, are_operands, BadOperand, Bool, Err, false, fields, if◌then◌else◌, is_name, labels_of, line_of, LineError, List, mnemonic_of, NoMemory, None, Ok, Option, OrNoMemory, OutOfRange, read_content, refl, rest_of, Result, said, said_by, Some, Statement, statement_in, subst, sym, Syntax, trimmed, true, UnknownInstruction, without_comment, ℕ, ◌∙◌, ◌≡◌}
+use Rattle.statements.proofs.Common.{ap, are_operands, Err, fields, if◌then◌else◌, is_name, labels_of, Line, line_of, LineError, List, mnemonic_of, NoMemory, None, Ok, Option, OrNoMemory, rest_of, Result, said, said_by, Some, Statement, statement_in, sym, trimmed, true, without_comment, ℕ, ◌≡◌}
 use Rattle.statements.specs.Reading.{read}
-use Rattle.statements.specs.declared.line.Line.{Line}
 use Rattle.statements.proofs.Registers.{named_text}
 
 pub itself : {A : Type 0} (r s : Result A LineError) → r ≡ s → OrNoMemory r s

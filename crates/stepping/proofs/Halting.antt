@@ -1,169 +1,93 @@
 -- An instruction that halts ends a run.
-use Rattle.stepping.proofs.Common.{[], alloc_error, AllocError, ap, arith, Bool, Break, calls, cond, counted_by, course_of, Debugged, Effect, eqb, Err, Exit, false, Halt, Halts, IsFetched, IsMove, IsTick, left_by, List, Machine, machine_of, MayLackMemory, None, Ok, past_after, plain_tick, position_of, Printed, refl, Result, Retired, settled, signed, Some, stayed, Stepped, subst, sum, sym, Tick, tick_of, Trap, trapped, true, turns_back, UnknownCall, value, ℕ, ◌+◌, ◌∙◌, ◌≡◌, ◌≢◌}
+use Rattle.stepping.proofs.Common.{[], AllocError, ap, arith, Break, calls, counted_by, Course, course_of, Debugged, Effect, Err, false, Halt, Halts, IsMove, IsTick, left_by, List, Machine, machine_of, MayLackMemory, None, Ok, past_after, plain_tick, position_at, position_of, refl, Result, Retired, settled, Some, Stepped, subst, sum, sym, Tick, tick_of, Trap, true, turns_back, ℕ, ◌+◌, ◌∙◌, ◌≡◌, ◌≢◌}
 use Rattle.rv32i.specs.Steps.{settles}
 use Rattle.rv32i.specs.declared.instr.Instr.TheVariants.{Ecall, Ebreak}
 use Rattle.rv32i.specs.declared.performing.Halt.TheVariants.{Stopped, NoMemory, Calls, Breaks}
-use Rattle.stepping.proofs.Cases.{tick_of_move}
-use Rattle.stepping.proofs.Moving.{settled_moves}
+use Rattle.rv32i.proofs.Moving.{moves_answer}
+use Rattle.stepping.proofs.Cases.{settled_ticks}
 
 -- the machine with another pc
 abbrev pub at_pc : Debugged → ℕ → Debugged
 at_pc d pc = record d { hart = record d.hart { pc = pc } }
 
--- what it ends with is no plain tick, and the machine's
+-- ---- what it ends with is no plain tick, and the machine's
+
 abbrev Ticks : Debugged → Debugged → Stepped → Type 0
 Ticks d moved s = (tick_of s None 0 moved ≢ plain_tick) × IsTick d (Ok (tick_of s None 0 moved)) (settled s None d moved)
 
--- what is left to be done once its move was recorded and counted
-abbrev pub counted_at : Stepped → Debugged → ℕ → Debugged
-counted_at s d pc = record (at_pc d pc) { past = past_after (Ok s) (course_of d); retired = d.retired + counted_by s }
-
-pub left_settled : (s : Stepped) (d : Debugged) (pc : ℕ) → left_by s (counted_at s d pc) ≡ settled s None d (at_pc d pc)
-left_settled Retired d pc = refl
-left_settled (Printed number) d pc = refl
-left_settled Break d pc = refl
-left_settled (Exit code) d pc =
-    ap (λ (n : ℕ). stayed (record (at_pc d pc) { retired = n })) (let e : d.retired + 0 ≡ d.retired = omega arith in e)
-left_settled (Trap cause) d pc =
-    ap (λ (n : ℕ). stayed (record (at_pc d pc) { retired = n })) (let e : d.retired + 0 ≡ d.retired = omega arith in e)
-
-pub tick_counted : (s : Stepped) (d : Debugged) (pc : ℕ) → tick_of s None 0 (counted_at s d pc) ≡ tick_of s None 0 (at_pc d pc)
-tick_counted Retired d pc = refl
-tick_counted _ d pc = refl
+-- by the answer, of which one is that no memory was left
+abbrev pub EndsWith : Debugged → Result Stepped AllocError → Debugged → Type 0
+EndsWith d (Ok s) moved = Ticks d moved s
+EndsWith d (Err error) moved = (moved ≡ d) × MayLackMemory d
 
 -- ---- an environment call
 
-with_memory : List ℕ → Effect → Effect
+-- it depends on no byte of memory
+abbrev with_memory : List ℕ → Effect → Effect
 with_memory memory e = record { answer = e.answer; machine = record e.machine { memory = memory } }
 
-either : (P : Effect → Type 0) (t : Bool) (a b : Effect) → P a → P b → P (cond t a b)
-either P true a b x y = x
-either P false a b x y = y
-
--- it depends on no byte of memory
 calls_so : (pc : ℕ) (x memory : List ℕ)
     → with_memory memory (calls (record { pc = pc; x = x; memory = [] })) ≡ calls (record { pc = pc; x = x; memory = memory })
-unfolding with_memory
-calls_so pc x memory =
-    by (eqb (value 17 (record { pc = pc; x = x; memory = [] })) 93) (eqb (value 17 (record { pc = pc; x = x; memory = [] })) 1) where
-      m : Machine
-      m = record { pc = pc; x = x; memory = [] }
-
-      n : Machine
-      n = record { pc = pc; x = x; memory = memory }
-
-      by : (s t : Bool) → with_memory memory
-          (cond s (record { answer = Ok (Exit (signed (value 10 m))); machine = m })
-          (cond t (record { answer = Ok (Printed (signed (value 10 m))); machine = record m { pc = sum m.pc 4 } }) (trapped UnknownCall m)))
-          ≡ cond s (record { answer = Ok (Exit (signed (value 10 n))); machine = n })
-          (cond t (record { answer = Ok (Printed (signed (value 10 n))); machine = record n { pc = sum n.pc 4 } }) (trapped UnknownCall n))
-      by true t = refl
-      by false true = refl
-      by false false = refl
+calls_so pc x memory = grind arith
 
 -- and no instruction retires by it but to print
 calls_answer : (m : Machine) → (calls m).answer ≡ Ok Retired → ⊥
-calls_answer m = either (λ e. e.answer ≡ Ok Retired → ⊥) (eqb (value 17 m) 93) _ _ (λ h. cc)
-    (either (λ e. e.answer ≡ Ok Retired → ⊥) (eqb (value 17 m) 1) _ _ (λ h. cc) (λ h. cc))
-
-calls_no_error : (m : Machine) (error : AllocError) → (calls m).answer ≡ Err error → ⊥
-calls_no_error m error = either (λ e. e.answer ≡ Err error → ⊥) (eqb (value 17 m) 93) _ _ (λ h. cc)
-    (either (λ e. e.answer ≡ Err error → ⊥) (eqb (value 17 m) 1) _ _ (λ h. cc) (λ h. cc))
-
-call_effect : (answer : Result Stepped AllocError) (next pc : ℕ) (x memory : List ℕ)
-    → ((let e : Effect = record { answer = answer; machine = record { pc = next; x = x; memory = [] } } in e)
-    ≡ calls (record { pc = pc; x = x; memory = [] }))
-    → ((let e : Effect = record { answer = answer; machine = record { pc = next; x = x; memory = memory } } in e)
-    ≡ calls (record { pc = pc; x = x; memory = memory }))
-unfolding with_memory
-call_effect answer next pc x memory s = ap (with_memory memory) s ∙ calls_so pc x memory
-
-ecall_ticks : (d : Debugged) (pc : ℕ) (s : Stepped) → d.check_due ≡ false → turns_back d.goal ≡ false
-    → IsFetched (machine_of d.hart d.memory) (Some Ecall)
-    → IsMove (machine_of d.hart d.memory) (record { answer = Ok s; machine = machine_of (record d.hart { pc = pc }) d.memory })
-    → (s ≡ Retired → ⊥) → Ticks d (at_pc d pc) s
-ecall_ticks d pc Retired due forward f m never = absurd (never refl)
-ecall_ticks d pc (Printed number) due forward f m never = (
-  λ e. (let differs = ap (λ (t : Tick). t.printed) e in cc),
-  tick_of_move d _ _ due forward
-      (settled_moves d (record d.hart { pc = pc }) d.memory (Some Ecall) (Printed number) f m),
-)
-ecall_ticks d pc Break due forward f m never = (
-  λ e. (let differs = ap (λ (t : Tick). t.outcome) e in cc),
-  tick_of_move d _ _ due forward
-      (settled_moves d (record d.hart { pc = pc }) d.memory (Some Ecall) Break f m),
-)
-ecall_ticks d pc (Exit code) due forward f m never = (
-  λ e. (let differs = ap (λ (t : Tick). t.outcome) e in cc),
-  tick_of_move d _ _ due forward
-      (settled_moves d (record d.hart { pc = pc }) d.memory (Some Ecall) (Exit code) f m),
-)
-ecall_ticks d pc (Trap cause) due forward f m never = (
-  λ e. (let differs = ap (λ (t : Tick). t.outcome) e in cc),
-  tick_of_move d _ _ due forward
-      (settled_moves d (record d.hart { pc = pc }) d.memory (Some Ecall) (Trap cause) f m),
-)
+calls_answer m = grind arith
 
 -- ---- each halt
 
--- what is settled of a halt
-pub record Settled (d : Debugged) (answer : Result Stepped AllocError) (moved : Debugged) : Type 0 where
-  pub ticks : (s : Stepped) → answer ≡ Ok s → Ticks d moved s
-  pub lacks : (error : AllocError) → answer ≡ Err error → (moved ≡ d) × MayLackMemory d
+halt_ends : (d : Debugged) (halt : Halt) (answer : Result Stepped AllocError) (pc : ℕ) → d.check_due ≡ false → turns_back d.goal ≡ false
+    → Halts d.hart.pc halt (position_of d) → settles halt d.hart.pc d.hart.x answer pc → EndsWith d answer (at_pc d pc)
+halt_ends d (Stopped cause) answer pc due forward h s = rw (s.0, s.1) (
+  λ e. grind arith,
+  settled_ticks d d.hart d.memory h.instr (Trap cause) due forward h.fetched h.says,
+)
+halt_ends d NoMemory answer pc due forward h s = rw (s.0, s.1)
+    (refl, record { moves = due; needs = λ f. h.says; back = λ t. absurd (let never : false ≡ true = sym forward ∙ t in cc) })
+halt_ends d Breaks answer pc due forward h s = rw (s.0, s.1) (
+  λ e. grind arith,
+  settled_ticks d (record d.hart { pc = sum d.hart.pc 4 }) d.memory (Some Ebreak) Break due forward (rw h.says.0 at h.fetched) h.says.1,
+)
+halt_ends d Calls answer pc due forward h s = go answer effect (subst (IsMove (machine_of d.hart d.memory)) (sym effect) h.says.1) where
+  made : Result Stepped AllocError → Effect
+  made answer = record { answer = answer; machine = machine_of (record d.hart { pc = pc }) d.memory }
 
-pub halt_settles : (d : Debugged) (halt : Halt) (answer : Result Stepped AllocError) (pc : ℕ) → d.check_due ≡ false
-    → turns_back d.goal ≡ false
-    → Halts d.hart.pc halt (position_of d) → settles halt d.hart.pc d.hart.x answer pc → Settled d answer (at_pc d pc)
-halt_settles d (Stopped cause) answer pc due forward h s =
-    let m : Machine = machine_of d.hart d.memory in
-    let stays : IsMove m (record { answer = Ok (Trap cause); machine = machine_of (record d.hart { pc = pc }) d.memory }) =
-    subst (λ (n : ℕ). IsMove m (record { answer = Ok (Trap cause); machine = machine_of (record d.hart { pc = n }) d.memory }))
-    (sym s.1) h.says in
-    let trap : Ticks d (at_pc d pc) (Trap cause) = (
-      λ e. (let differs = ap (λ (t : Tick). t.outcome) e in cc),
-      tick_of_move d _ _ due forward (settled_moves d (record d.hart { pc = pc }) d.memory h.instr (Trap cause) h.fetched stays),
-    ) in
-    record {
-      ticks =
-          λ t e. (let same : Trap cause ≡ t = (let both : Ok (Trap cause) ≡ Ok t = sym s.0 ∙ e in cc) in
-          subst (Ticks d (at_pc d pc)) same trap);
-      lacks = λ error e. absurd (let never : Ok (Trap cause) ≡ Err error = sym s.0 ∙ e in cc);
-    }
-halt_settles d NoMemory answer pc due forward h s = record {
-  ticks = λ t e. absurd (let never : Err alloc_error ≡ Ok t = sym s.0 ∙ e in cc);
-  lacks = λ error e. (
-    ap (at_pc d) s.1,
-    record {
-      moves = due;
-      needs = λ f. h.says;
-      back = λ t. absurd (let never : false ≡ true = sym forward ∙ t in cc);
-    },
-  );
-}
-halt_settles d Calls answer pc due forward h s =
-    let m : Machine = machine_of d.hart d.memory in
-    let f : IsFetched m (Some Ecall) = subst (IsFetched m) h.says.0 h.fetched in
-    let effect : ((let e : Effect = record { answer = answer; machine = machine_of (record d.hart { pc = pc }) d.memory } in e) ≡ calls m) =
-    call_effect answer pc d.hart.pc d.hart.x d.memory s in
-    let move = subst (IsMove m) (sym effect) h.says.1 in
-    record {
-      ticks = λ t e. ecall_ticks d pc t due forward f
-          (subst (λ (a : Result Stepped AllocError). IsMove m
-          (record { answer = a; machine = machine_of (record d.hart { pc = pc }) d.memory })) e move)
-          (λ r. calls_answer m (ap (λ (x : Effect). x.answer) (sym effect) ∙ e ∙ ap (λ (x : Stepped). Ok x) r));
-      lacks = λ error e. absurd (calls_no_error m error (ap (λ (x : Effect). x.answer) (sym effect) ∙ e));
-    }
-halt_settles d Breaks answer pc due forward h s =
-    let m : Machine = machine_of d.hart d.memory in
-    let f : IsFetched m (Some Ebreak) = subst (IsFetched m) h.says.0 h.fetched in
-    let move : IsMove m (record { answer = Ok Break; machine = machine_of (record d.hart { pc = pc }) d.memory }) =
-    subst (λ (n : ℕ). IsMove m (record { answer = Ok Break; machine = machine_of (record d.hart { pc = n }) d.memory }))
-    (sym s.1) h.says.1 in
-    let break : Ticks d (at_pc d pc) Break = (
-      λ e. (let differs = ap (λ (t : Tick). t.outcome) e in cc),
-      tick_of_move d _ _ due forward (settled_moves d (record d.hart { pc = pc }) d.memory (Some Ebreak) Break f move),
-    ) in
-    record {
-      ticks = λ t e. (let same : Break ≡ t = (let both : Ok Break ≡ Ok t = sym s.0 ∙ e in cc) in subst (Ticks d (at_pc d pc)) same break);
-      lacks = λ error e. absurd (let never : Ok Break ≡ Err error = sym s.0 ∙ e in cc);
-    }
+  effect : made answer ≡ calls (machine_of d.hart d.memory)
+  effect = ap (with_memory d.memory) s ∙ calls_so d.hart.pc d.hart.x d.memory
+
+  go : (answer : Result Stepped AllocError) → made answer ≡ calls (machine_of d.hart d.memory)
+      → IsMove (machine_of d.hart d.memory) (made answer) → EndsWith d answer (at_pc d pc)
+  go (Ok Retired) e m = absurd (calls_answer (machine_of d.hart d.memory) (ap (λ (x : Effect). x.answer) (sym e)))
+  go (Ok s) e m = (
+    λ plain. grind arith,
+    settled_ticks d (record d.hart { pc = pc }) d.memory (Some Ecall) s due forward (rw h.says.0 at h.fetched) m,
+  )
+  go (Err error) e m = absurd (let never : false ≡ true = moves_answer (machine_of d.hart d.memory) (made (Err error)) m in cc)
+
+-- ---- once its move was recorded and counted
+
+-- where a course stands, with this many retired in all
+abbrev pub standing : Course → ℕ → Debugged → Debugged
+standing c n d = record d { hart = c.now.hart; memory = c.now.memory; calls = c.now.calls; past = c.past; retired = n }
+
+-- a course that was settled
+abbrev pub settled_to : ℕ → Result Stepped AllocError → Course → Course
+settled_to pc answer c = record { now = position_at pc c.now; past = past_after answer c }
+
+-- how that ends a run of the machine of this view
+module _ (d now : Debugged) (is : d ≡ now) (due : now.check_due ≡ false) (forward : turns_back now.goal ≡ false) (halt : Halt)
+    (halts : Halts now.hart.pc halt (position_of now)) where
+  pub halt_ticks : (s : Stepped) (pc count : ℕ) (c : Course) (tick : Tick) (after : Debugged)
+      → settles halt d.hart.pc d.hart.x (Ok s) pc → c ≡ settled_to pc (Ok s) (course_of d) → count ≡ counted_by s
+      → tick ≡ tick_of s None 0 (standing c (d.retired + count) d) → after ≡ left_by s (standing c (d.retired + count) d)
+      → (tick ≢ plain_tick) × IsTick now (Ok tick) after
+  halt_ticks s pc count c tick after m to counted told left =
+      let tick_is : tick ≡ tick_of s None 0 (at_pc d pc) = grind arith in
+      let after_is : after ≡ settled s None d (at_pc d pc) = grind arith in
+      rw (← is, tick_is, after_is) (halt_ends d halt (Ok s) pc (rw is due) (rw is forward) (rw is halts) m)
+
+  pub halt_lacks : (error : AllocError) (pc : ℕ) (c : Course) → settles halt d.hart.pc d.hart.x (Err error) pc
+      → c ≡ settled_to pc (Err error) (course_of d) → (standing c d.retired d ≡ now) × MayLackMemory now
+  halt_lacks error pc c m to =
+      let lacks = halt_ends d halt (Err error) pc (rw is due) (rw is forward) (rw is halts) m in
+      (ap (λ (x : Course). standing x d.retired d) to ∙ lacks.0 ∙ is, rw is at lacks.1)

@@ -1,7 +1,5 @@
 pub mod Common
-pub mod Moving
 pub mod Cases
-pub mod Quiet
 pub mod Going
 pub mod Bursting
 pub mod Counting
@@ -16,5 +14,4 @@ pub mod Existing
 pub mod Loading
 pub mod Exiting
 pub mod Leading
-pub mod Turning
 pub mod Reversing

@@ -1,8 +1,7 @@
 -- A run stops at one number, wherever its moves are counted from.
-use Rattle.stepping.proofs.Common.{Advances, After, ap, Applies, AppliesAt, AppliesAtEntry, arith, Bool, CountsAnew, Debugged, Decides, Decides-ltb, Ebreak, Ended, entered, Exception, Exit, false, Function, has_retired, Instruction, ltb, MovesEnd, NoneBelow, not_from_Decides, Outcome, place, Reason, refl, Source, Start, StopIsUnique, Stopped, StopsAt, subst, suc, sym, Trap, true, Went, zero, ℕ, ℤ, ◌+◌, ◌-◌, ◌<◌, ◌∙◌, ◌≡◌, ◌≢◌, ◌≤◌}
-use Rattle.rv32i.specs.declared.stepped.Cause.{Cause}
-use Rattle.stepping.specs.declared.tick.Reason.TheVariants.{Goal}
-use Rattle.stepping.proofs.Advancing.{Made, advance_answers, after_equal, after_lower, after_ready, answers_equal}
+use Rattle.stepping.proofs.Common.{Advances, After, Applies, AppliesAt, arith, both_ways, cases_lt, CountsAnew, Debugged, Ended, entered, Exception, Exit, false, inl, inr, MovesEnd, NoneBelow, Outcome, place, refl, StopIsUnique, Stopped, StopsAt, subst, suc, sym, Trap, true, zero, ℕ, ◌+◌, ◌-◌, ◌<◌, ◌∙◌, ◌≡◌, ◌≤◌, ◌⊎◌}
+use Rattle.std.proofs.Common.{◌↔◌}
+use Rattle.stepping.proofs.Advancing.{advanced, after_equal, after_keeps, answers_equal}
 
 -- what applies at the next instruction, at another machine after as many moves
 pub applies_here : (k : ℕ) (start before : Debugged) (outcome : Outcome) → After k start before → AppliesAt (suc k) outcome start
@@ -11,135 +10,91 @@ applies_here k start before outcome a x = subst (λ (d : Debugged). Applies outc
 
 -- ---- one number and one reason
 
-other_place : (reason : Reason) → (place (Stopped reason) ≢ 2) × (place (Stopped reason) ≢ 9)
-other_place (Exception c) = (λ e. omega (arith, e), λ e. omega (arith, e))
-other_place _ = (λ e. omega (arith, e), λ e. omega (arith, e))
-
-same_reason : (o p : Outcome) → place o ≡ place p → ((c d : Cause) → o ≡ Stopped (Exception c) → p ≡ Stopped (Exception d) → c ≡ d)
-    → ((c d : ℤ) → o ≡ Ended c → p ≡ Ended d → c ≡ d) → o ≡ p
-same_reason (Stopped (Exception c)) (Stopped (Exception d)) e causes codes =
-    ap (λ (x : Cause). Stopped (Exception x)) (causes c d refl refl)
-same_reason (Ended c) (Ended d) e causes codes = ap (λ (x : ℤ). Ended x) (codes c d refl refl)
-same_reason (Stopped Ebreak) (Stopped Ebreak) e causes codes = refl
-same_reason (Stopped Source) (Stopped Source) e causes codes = refl
-same_reason (Stopped Instruction) (Stopped Instruction) e causes codes = refl
-same_reason (Stopped Function) (Stopped Function) e causes codes = refl
-same_reason (Stopped Goal) (Stopped Goal) e causes codes = refl
-same_reason (Stopped Start) (Stopped Start) e causes codes = refl
-same_reason Went Went e causes codes = refl
-same_reason (Ended c) (Stopped reason) e causes codes = absurd ((other_place reason).0 (sym e))
-same_reason Went (Stopped reason) e causes codes = absurd ((other_place reason).1 (sym e))
-same_reason _ _ e causes codes = absurd (omega (arith, e))
+same_reason : (before : Debugged) (o p : Outcome) → Applies o before → Applies p before → place o ≡ place p → o ≡ p
+same_reason before (Stopped (Exception c)) (Stopped (Exception d)) x y e =
+    let same : Trap c ≡ Trap d = answers_equal before (Trap c) (Trap d) x y in cc
+same_reason before (Ended c) (Ended d) x y e = let same : Exit c ≡ Exit d = answers_equal before (Exit c) (Exit d) x y in cc
+same_reason before _ _ x y e = grind arith
 
 reason_equal : (n : ℕ) (outcome another : Outcome) (start : Debugged) → AppliesAt n outcome start → AppliesAt n another start
     → place outcome ≡ place another → outcome ≡ another
-reason_equal zero outcome another start x y e = same_reason outcome another e
-    (λ c d o p. absurd (subst (λ (r : Outcome). AppliesAtEntry r start) o x.1))
-    (λ c d o p. absurd (subst (λ (r : Outcome). AppliesAtEntry r start) o x.1))
+reason_equal zero outcome another start x y e = grind arith
 reason_equal (suc n) outcome another start x y e =
-    let here : Applies another x.0 = applies_here n start x.0 another x.1.0 y in
-    same_reason outcome another e
-    (λ c d o p. let same : Trap c ≡ Trap d = answers_equal x.0 (Trap c) (Trap d) (subst (λ (r : Outcome). Applies r x.0) o x.1.1)
-    (subst (λ (r : Outcome). Applies r x.0) p here) in cc)
-    (λ c d o p. let same : Exit c ≡ Exit d = answers_equal x.0 (Exit c) (Exit d) (subst (λ (r : Outcome). Applies r x.0) o x.1.1)
-    (subst (λ (r : Outcome). Applies r x.0) p here) in cc)
+    same_reason x.0 outcome another x.1.1 (applies_here n start x.0 another x.1.0 y) e
 
 pub stop_is_unique : StopIsUnique
 stop_is_unique n other outcome another start a b =
     let below : (n < other → ⊥) = λ l. b.least n outcome l a.applies in
     let above : (other < n → ⊥) = λ l. a.least other another l b.applies in
     let same : n ≡ other = omega (arith, below, above) in
-    let here : AppliesAt n another start = subst (λ (k : ℕ). AppliesAt k another start) (sym same) b.applies in
-    let there : AppliesAt other outcome start = subst (λ (k : ℕ). AppliesAt k outcome start) same a.applies in
+    let here : AppliesAt n another start = rw same b.applies in
+    let there : AppliesAt other outcome start = rw same at a.applies in
     (same, reason_equal n outcome another start a.applies here (omega (arith, a.first another here, b.first outcome there)))
 
 -- ---- where the moves end
 
 apart : (before after : Debugged) (outcome : Outcome) → place outcome ≤ 2 → Applies outcome before → Advances before after → ⊥
-apart before after (Stopped (Exception cause)) l x m =
-    let never : true ≡ false = sym m.retires
-    ∙ ap has_retired (answers_equal before m.answer (Trap cause) (advance_answers before after m) x) in cc
-apart before after (Ended code) l x m =
-    let never : true ≡ false = sym m.retires
-    ∙ ap has_retired (answers_equal before m.answer (Exit code) (advance_answers before after m) x) in cc
-apart before after (Stopped Ebreak) l x m = omega (arith, l)
-apart before after (Stopped Source) l x m = omega (arith, l)
-apart before after (Stopped Instruction) l x m = omega (arith, l)
-apart before after (Stopped Function) l x m = omega (arith, l)
-apart before after (Stopped Goal) l x m = omega (arith, l)
-apart before after (Stopped Start) l x m = x
-apart before after Went l x m = x
+apart before after (Stopped (Exception cause)) l x m = let never : false ≡ true = advanced before after (Trap cause) x m in cc
+apart before after (Ended code) l x m = let never : false ≡ true = advanced before after (Exit code) x m in cc
+apart before after _ l x m = omega (arith, l)
 
 pub moves_end : MovesEnd
-moves_end n later outcome start after l x less a =
-    let made : Made n start = after_lower later n start after less a in
-    apart made.0 made.1.0 outcome l (applies_here n start made.0 outcome made.1.1.0 x) made.1.1.1
+moves_end n zero outcome start after l x less a = absurd (omega (arith, less))
+moves_end n (suc later) outcome start after l x less a = go (cases_lt n later) (λ m. moves_end n later outcome start a.0 l x m a.1.0) where
+  go : (n < later) ⊎ (later ≤ n) → (n < later → ⊥) → ⊥
+  go (inl lower) more = more lower
+  go (inr here) more =
+      let same : n ≡ later = omega (arith, less, here) in
+      apart a.0 after outcome l (applies_here later start a.0 outcome a.1.0 (rw same at x)) a.1.1
 
 -- ---- moves counted anew
 
-entered_again : (middle : Debugged) → middle.check_due ≡ false → entered middle ≡ middle
-entered_again middle e = rw e refl
-
 -- moves from the middle, and all of them from the start
-join : (j k all : ℕ) (start middle after : Debugged) → all ≡ k + j → After k start middle → After j middle after → After all start after
-join zero k all start middle after e h a =
-    let same : k ≡ all = omega (arith, e) in
-    let there : after ≡ middle = a ∙ entered_again middle (after_ready k start middle h) in
-    subst (λ (n : ℕ). After n start after) same (subst (λ (d : Debugged). After k start d) (sym there) h)
-join (suc j) k zero start middle after e h a = absurd (omega (arith, e))
-join (suc j) k (suc all) start middle after e h a = (a.0, (join j k all start middle a.0 (omega (arith, e)) h a.1.0, a.1.1))
-
-split : (j k all : ℕ) (start middle after : Debugged) → all ≡ k + j → After k start middle → After all start after → After j middle after
-split zero k all start middle after e h a =
+joined : (j k all : ℕ) (start middle after : Debugged) → all ≡ k + j → After k start middle → After j middle after ↔ After all start after
+joined zero k all start middle after e h =
     let same : all ≡ k = omega (arith, e) in
-    after_equal k start after middle (subst (λ (n : ℕ). After n start after) same a) h
-    ∙ sym (entered_again middle (after_ready k start middle h))
-split (suc j) k zero start middle after e h a = absurd (omega (arith, e))
-split (suc j) k (suc all) start middle after e h a = (a.0, (split j k all start middle a.0 (omega (arith, e)) h a.1.0, a.1.1))
+    let ready = (after_keeps k start middle h).ready in
+    let again : entered middle ≡ middle = rw ready refl in
+    (λ a. rw (same, a ∙ again) h, λ a. after_equal k start after middle (rw same at a) h ∙ sym again)
+joined (suc j) k zero start middle after e h = absurd (omega (arith, e))
+joined (suc j) k (suc all) start middle after e h =
+    let on = λ (d : Debugged). joined j k all start middle d (omega (arith, e)) h in
+    (λ a. (a.0, ((on a.0).0 a.1.0, a.1.1)), λ a. (a.0, ((on a.0).1 a.1.0, a.1.1)))
 
--- what applies at a number of the middle, and at that of the start
-join_applies : (j k all : ℕ) (outcome : Outcome) (start middle : Debugged) → all ≡ k + suc j → After k start middle
-    → AppliesAt (suc j) outcome middle → AppliesAt all outcome start
-join_applies j k zero outcome start middle e h x = absurd (omega (arith, e))
-join_applies j k (suc all) outcome start middle e h x = (x.0, (join j k all start middle x.0 (omega (arith, e)) h x.1.0, x.1.1))
+module _ (k : ℕ) (start middle : Debugged) (h : After k start middle) where
+  -- what applies at a number of the middle, and at that of the start
+  applies : (j all : ℕ) (outcome : Outcome) → all ≡ k + suc j → AppliesAt (suc j) outcome middle ↔ AppliesAt all outcome start
+  applies j zero outcome e = absurd (omega (arith, e))
+  applies j (suc all) outcome e =
+      let on = λ (d : Debugged). joined j k all start middle d (omega (arith, e)) h in
+      (λ x. (x.0, ((on x.0).0 x.1.0, x.1.1)), λ x. (x.0, ((on x.0).1 x.1.0, x.1.1)))
 
-split_applies : (j k all : ℕ) (outcome : Outcome) (start middle : Debugged) → all ≡ k + suc j → After k start middle
-    → AppliesAt all outcome start → AppliesAt (suc j) outcome middle
-split_applies j k zero outcome start middle e h x = absurd (omega (arith, e))
-split_applies j k (suc all) outcome start middle e h x = (x.0, (split j k all start middle x.0 (omega (arith, e)) h x.1.0, x.1.1))
+  none_at_entry : (outcome : Outcome) → AppliesAt 0 outcome middle → ⊥
+  none_at_entry outcome x = both_ways middle.check_due (after_keeps k start middle h).ready x.0
 
-none_at_entry : (k : ℕ) (outcome : Outcome) (start middle : Debugged) → After k start middle → AppliesAt 0 outcome middle → ⊥
-none_at_entry k outcome start middle h x = let never : true ≡ false = sym x.0 ∙ after_ready k start middle h in cc
+  join_stops : (n : ℕ) (outcome : Outcome) → NoneBelow (suc k) start → StopsAt n outcome middle → StopsAt (k + n) outcome start
+  join_stops zero outcome none s = absurd (none_at_entry outcome s.applies)
+  join_stops (suc j) outcome none s = record {
+    applies = (applies j (k + suc j) outcome refl).0 s.applies;
+    first = λ other x. s.first other ((applies j (k + suc j) other refl).1 x);
+    least = λ lower other l x. by lower other l x (cases_lt lower (suc k));
+  } where
+    by : (lower : ℕ) (other : Outcome) → lower < k + suc j → AppliesAt lower other start → (lower < suc k) ⊎ (suc k ≤ lower) → ⊥
+    by lower other l x (inl less) = none lower other less x
+    by lower other l x (inr more) =
+        s.least (suc (lower - k - 1)) other (omega (arith, more, l)) ((applies (lower - k - 1) lower other (omega (arith, more))).1 x)
 
-join_stops : (k n : ℕ) (outcome : Outcome) (start middle : Debugged) → After k start middle → NoneBelow (suc k) start
-    → StopsAt n outcome middle → StopsAt (k + n) outcome start
-join_stops k zero outcome start middle h none s = absurd (none_at_entry k outcome start middle h s.applies)
-join_stops k (suc j) outcome start middle h none s = record {
-  applies = join_applies j k (k + suc j) outcome start middle refl h s.applies;
-  first = λ other x. s.first other (split_applies j k (k + suc j) other start middle refl h x);
-  least = lower_none;
-} where
-  lower_none : NoneBelow (k + suc j) start
-  lower_none lower other l x = go (ltb lower (suc k)) (Decides-ltb lower (suc k)) where
-    go : (below : Bool) → Decides below (lower < suc k) → ⊥
-    go true d = none lower other (d.0 refl) x
-    go false d =
-        let past : (lower < suc k → ⊥) = not_from_Decides false d refl in
-        s.least (suc (lower - k - 1)) other (omega (arith, past, l))
-        (split_applies (lower - k - 1) k lower other start middle (omega (arith, past)) h x)
-
-split_stops : (k n : ℕ) (outcome : Outcome) (start middle : Debugged) → After k start middle → NoneBelow (suc k) start
-    → StopsAt (k + n) outcome start → StopsAt n outcome middle
-split_stops k zero outcome start middle h none s = absurd (none (k + 0) outcome (omega arith) s.applies)
-split_stops k (suc j) outcome start middle h none s = record {
-  applies = split_applies j k (k + suc j) outcome start middle refl h s.applies;
-  first = λ other x. s.first other (join_applies j k (k + suc j) other start middle refl h x);
-  least = lower_none;
-} where
-  lower_none : NoneBelow (suc j) middle
-  lower_none zero other l x = none_at_entry k other start middle h x
-  lower_none (suc lower) other l x =
-      s.least (k + suc lower) other (omega (arith, l)) (join_applies lower k (k + suc lower) other start middle refl h x)
+  split_stops : (n : ℕ) (outcome : Outcome) → NoneBelow (suc k) start → StopsAt (k + n) outcome start → StopsAt n outcome middle
+  split_stops zero outcome none s = absurd (none (k + 0) outcome (omega arith) s.applies)
+  split_stops (suc j) outcome none s = record {
+    applies = (applies j (k + suc j) outcome refl).1 s.applies;
+    first = λ other x. s.first other ((applies j (k + suc j) other refl).0 x);
+    least = least;
+  } where
+    least : NoneBelow (suc j) middle
+    least zero other l x = none_at_entry other x
+    least (suc lower) other l x = s.least (k + suc lower) other (omega (arith, l)) ((applies lower (k + suc lower) other refl).0 x)
 
 pub counts_anew : CountsAnew
-counts_anew k n outcome start middle h none = (join_stops k n outcome start middle h none, split_stops k n outcome start middle h none)
+counts_anew k n outcome start middle h none =
+    (join_stops k start middle h n outcome none, split_stops k start middle h n outcome none)

@@ -1,6 +1,6 @@
 //! The value of an expression, on a hart and its memory.
 
-use expressions::{Expr, ExprError};
+use breakpoints::{Expr, ExprError};
 use image::Memory;
 use rv32i::Hart;
 use std::alloc::Global;

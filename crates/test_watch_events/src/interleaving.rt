@@ -44,10 +44,19 @@ impl Editor {
         events: &[Event],
     ) -> Result<Mirror, Fault> {
         let played = self.play(&mut session, events);
-        let Editor { mirror, .. } = self;
+        drop(session);
+        let Editor {
+            mirror,
+            requests,
+            ..
+        } = self;
+        drop(requests);
         match played {
             Ok(()) => Ok(mirror),
-            Err(fault) => Err(fault),
+            Err(fault) => {
+                drop(mirror);
+                Err(fault)
+            }
         }
     }
 
@@ -82,9 +91,9 @@ impl Editor {
                 break;
             };
             if let Ok(Incoming::Request(request)) = read_request(self.alloc, body) {
-                self.mirror
-                    .sent(&request)
-                    .map_err(|_| Fault::NoMemoryInCall)?;
+                let told = self.mirror.sent(&request);
+                drop(request);
+                told.map_err(|_| Fault::NoMemoryInCall)?;
             }
         }
         Ok(())

@@ -10,7 +10,7 @@
 
 ghost use Rattle.std.specs.Prelude.{◌≤◌, IfOk, length};
 ghost use Rattle.std.specs.Str.{IsUtf8};
-ghost use Rattle.message_laws.specs.Messages.{IsPath};
+ghost use Rattle.session_laws.specs.Messages.{IsPath};
 
 mod comparing;
 mod interleaving;
@@ -57,10 +57,13 @@ impl Player for Events {
             }
             ["interleave", connection, count, size] => {
                 let (connection, count) = (parsed(connection)?, parsed(count)?);
-                let found = self.watch(alloc, connection, count)?;
-                let mirror = self.interleaved(alloc, connection, count, parsed(size)?)?;
-                match found {
-                    Ok(watched) => alike(alloc, &mirror, &watched.mirror),
+                let size = parsed(size)?;
+                match self.watch(alloc, connection, count)? {
+                    Ok(watched) => {
+                        let answer = self.interleave(alloc, connection, count, size, &watched);
+                        drop(watched);
+                        answer
+                    }
                     Err(error) => error_of(alloc, error),
                 }
             }
@@ -117,6 +120,20 @@ impl Events {
         ))
     }
 
+    fn interleave(
+        &self,
+        alloc: Global,
+        connection: u32,
+        count: usize,
+        size: usize,
+        watched: &Watched,
+    ) -> Result<String, Fault> {
+        let mirror = self.interleaved(alloc, connection, count, size)?;
+        let answer = alike(alloc, &mirror, &watched.mirror);
+        drop(mirror);
+        answer
+    }
+
     fn interleaved(
         &self,
         alloc: Global,
@@ -160,7 +177,11 @@ fn path_of(path: &String) -> Result<Text, Fault>
 
 fn compare(alloc: Global, found: Result<Watched, WatchError>) -> Result<String, Fault> {
     match found {
-        Ok(watched) => compared(alloc, &watched),
+        Ok(watched) => {
+            let answer = compared(alloc, &watched);
+            drop(watched);
+            answer
+        }
         Err(error) => error_of(alloc, error),
     }
 }

@@ -2,8 +2,7 @@
 use Rattle.transport.proofs.Common.{[], after_all, after_round, after_rounds, AllSaid, ap, CallFailed, Cause, Connect, Did, DriveEnd, DropConnection, Effect, end_of, Event, events_by, events_of, false, histories, Hold, inl, InputEnded, inr, Kept, Leaves, Line, List, moves_granted, NoAnswer, NoMemory, NoRoom, PieceLost, Ran, refl, Round, RunsOut, Session, Slice, Stands, subst, sym, TimeCut, true, TurnsMade, ℕ, ◌++◌, ◌+◌, ◌∙◌, ◌∷◌, ◌≡◌, ◌⊎◌}
 use Rattle.session.proofs.Reaching.{led_append}
 use Rattle.session.specs.Reached.{Happened, Whole, Cut, leaves, led_to}
-use Rattle.session_laws.proofs.Joined.{slices_join}
-use Rattle.transport.specs.Reaching.{AreJoined, DrivingLeads, DrivingTells, IsLedTo, JoinedLeadToTheSame, ServingLeads, ServingTells}
+use Rattle.transport.specs.Reaching.{DrivingLeads, DrivingTells, IsLedTo, ServingLeads, ServingTells}
 use Rattle.transport.specs.Serving.{Iteration, Unattended, Connection, AreIterations, HasLeft, IsWhy, LeavesBy, LeavesCut, Why, DoorClosed, Refused, DoorFailed, AllMade, NoRoomYet, UnattendedCut, ConnectionCut, after_iteration, after_iterations, end_by, events_at, events_for, events_of_all, turns_in}
 use Rattle.std.specs.Prelude.{◌-◌, Option}
 
@@ -182,16 +181,3 @@ serving_tells before after old new turns s kept end d = (
       ∙ ap (after_all histories (events_at d.why)) (iterations_told turns s d.iterations d.are_iterations))
       (why_told d.why _ _ _ (after_iterations s d.iterations) kept d.is_why d.leaves),
 )
-
--- ---- slices that are joined
-
-pub joined_lead_to_the_same : JoinedLeadToTheSame
-joined_lead_to_the_same [] joined is s = ap (λ (l : List Event). after_all histories l s) is
-joined_lead_to_the_same (e ∷ events) [] is s = absurd is
-joined_lead_to_the_same (e ∷ events) (j ∷ joined) (inl (same, more)) s =
-    ap (λ (x : Event). after_all histories joined (Effect s x)) same ∙ joined_lead_to_the_same events joined more (Effect s e)
-joined_lead_to_the_same (e ∷ events) (j ∷ joined) (inr (a, b, first, whole, more)) s =
-    ap (λ (x : Event). after_all histories joined (Effect s x)) whole
-    ∙ ap (after_all histories joined) (sym (slices_join s a b).0)
-    ∙ joined_lead_to_the_same events (Slice b ∷ joined) more (Effect s (Slice a))
-    ∙ ap (λ (x : Event). after_all histories events (Effect s x)) (sym first)

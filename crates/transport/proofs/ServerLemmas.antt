@@ -15,7 +15,10 @@ use Rattle.transport.specs.declared.server.ServerError.TheVariants.{Frame, Messa
 use Rattle.transport.specs.Heard.{messages_in}
 use Rattle.transport.specs.Servers.{Polled, Gave, Polls}
 use Rattle.transport.specs.Private.Inbox.{IsEmptied, Takes, polled_of, Reads, Listens}
-use Rattle.session_laws.proofs.Firsts.{first_some}
+
+first_some : (waiting : List (List ℕ)) (b : List ℕ) → Some b ≡ first_of waiting → (bs : List (List ℕ)) × (waiting ≡ b ∷ bs)
+first_some [] b e = cc
+first_some (c ∷ bs) b e = let same : c ≡ b = cc in (bs, ap (λ d. d ∷ bs) same)
 
 messages_of-append : (xs ys : List (List ℕ)) → messages_of (xs ++ ys) ≡ messages_of xs ++ messages_of ys
 messages_of-append xs ys =

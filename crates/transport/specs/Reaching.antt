@@ -4,11 +4,10 @@
 -- slice was cut. So what a session represents after it was driven or served is led to from what it represented before, by what
 -- happened (`Reached` of `session`): all that holds of whatever is reached holds of what this loop makes of a session.
 --
--- What a recorder was told leads there too, unless no memory was left; and slices that follow each other may be told as one of all their moves. So
--- what is recorded, played again, queues the same bytes on each connection.
-use Rattle.std.specs.Prelude.{◌≡◌, ◌⊎◌, ℕ, ◌+◌, List, [], ◌∷◌}
+-- What a recorder was told leads there too, unless no memory was left; and slices that follow each other may be told as one of all their moves
+-- (`Joining` of `session_laws`). So what is recorded, played again, queues the same bytes on each connection.
+use Rattle.std.specs.Prelude.{◌≡◌, ◌⊎◌, ℕ, List}
 use Rattle.session.specs.declared.event.Event.{Event}
-use Rattle.session.specs.declared.event.Event.TheVariants.{Slice}
 use Rattle.session.specs.Effects.{after_all}
 use Rattle.session.specs.Kept.{Kept, Stands}
 use Rattle.session.specs.Reached.{Happened, led_to}
@@ -48,15 +47,3 @@ DrivingTells = (before after : Known) (old new : Line) (turns : ℕ) (s : Sessio
 abbrev pub ServingTells : Type 0
 ServingTells = (before after : Known) (old new : Doorway) (turns : ℕ) (s : Session) (kept : Kept) (end : DriveEnd)
     → ServedTold before after old new turns s kept end → TellsWhatHappened before after s kept end
-
--- events, where slices that follow each other may be one of all their moves
-abbrev pub AreJoined : List Event → List Event → Type 0
-AreJoined [] joined = joined ≡ []
-AreJoined (e ∷ events) [] = ⊥
-AreJoined (e ∷ events) (j ∷ joined) = ((j ≡ e) × AreJoined events joined)
-    ⊎ ((a : ℕ) × (b : ℕ) × (e ≡ Slice a) × (j ≡ Slice (a + b)) × AreJoined events (Slice b ∷ joined))
-
--- they lead to the same
-abbrev pub JoinedLeadToTheSame : Type 0
-JoinedLeadToTheSame = (events joined : List Event) → AreJoined events joined
-    → (s : Session) → after_all histories joined s ≡ after_all histories events s

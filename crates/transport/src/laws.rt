@@ -1,7 +1,7 @@
 //! What holds of a session that is driven or served, and of a server after any list of its calls, as theorems: functions that do
 //! nothing, whose clauses say it.
 ghost use Rattle.transport.specs.Laws as law;
-ghost use Rattle.transport.specs.Reaching.{DrivingLeads, DrivingTells, JoinedLeadToTheSame, ServingLeads, ServingTells};
+ghost use Rattle.transport.specs.Reaching.{DrivingLeads, DrivingTells, ServingLeads, ServingTells};
 
 /// Whatever comes over wires and doors, and wherever memory runs out: what a session represents after it was driven or served is what
 /// events, and slices that found no memory, lead to from what it represented before.
@@ -15,12 +15,6 @@ pub fn what_is_driven_and_served_is_reached()
 pub fn what_is_told_is_what_happened()
     ensures driven { DrivingTells }
     ensures served { ServingTells }
-{}
-
-/// Events lead to the same where slices that follow each other are one of all their moves: so what was recorded queues the same bytes on each
-/// connection when it is played again.
-pub fn joined_events_lead_to_the_same()
-    ensures { JoinedLeadToTheSame }
 {}
 
 /// Whatever calls are made of a server, its writer gets the frames of the messages that succeeded, with

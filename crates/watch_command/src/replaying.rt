@@ -41,11 +41,17 @@ pub fn replay<F: Files, W: Write>(
         (W.contents writer.old) (W.contents writer.new) result }
 {
     let copy = copy_of(alloc, &config);
-    let mut session = match Session::new(alloc, config, Limits::greatest()) {
-        Ok(session) => session,
-        Err(error) => return Err(no_session(error)),
-    };
-    answered(replay_in(alloc, copy, &mut session, steps, files, asked, writer))
+    match Session::new(alloc, config, Limits::greatest()) {
+        Ok(mut session) => {
+            let written = replay_in(alloc, copy, &mut session, steps, files, asked, writer);
+            drop(session);
+            answered(written)
+        }
+        Err(error) => {
+            drop(copy);
+            Err(no_session(error))
+        }
+    }
 }
 
 fn answered(written: Result<(), Unwritten>) -> Result<(), ReplayFault>

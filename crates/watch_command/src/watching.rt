@@ -86,13 +86,31 @@ pub fn watch_steps<F: Files, W: Write>(
         (F.past files.old) (F.past files.new) (W.contents writer.old) (W.contents writer.new)) }
 {
     let size = config.memory_size;
-    let copy = copy_of(alloc, &config)?;
-    let events = events_of(alloc, steps, files)?;
-    let watched = match watched_by(alloc, config, copy, &events, watch) {
+    let copy = match copy_of(alloc, &config) {
+        Ok(copy) => copy,
+        Err(refused) => {
+            drop(config);
+            drop(steps);
+            return Err(refused.into());
+        }
+    };
+    let events = match events_of(alloc, steps, files) {
+        Ok(events) => events,
+        Err(refused) => {
+            drop(config);
+            drop(copy);
+            return Err(refused.into());
+        }
+    };
+    let found = watched_by(alloc, config, copy, &events, watch);
+    drop(events);
+    let watched = match found {
         Ok(watched) => watched,
         Err(error) => return Err(WatchFault::Unwatched(error)),
     };
-    let lines = lines_of(alloc, &watched, size)?;
+    let lines = lines_of(alloc, &watched, size);
+    drop(watched);
+    let lines = lines?;
     match writer.write_all(lines.as_bytes()) {
         Ok(()) => Ok(()),
         Err(_) => Err(WatchFault::Write),
@@ -112,11 +130,20 @@ fn watched_by(
     ensures { WatchAnswers config events.now asked result }
 {
     let Watch { connection, cut } = asked;
-    let count = match cut {
-        Cut::At(count) => within(count),
-        Cut::All => queued(alloc, copy, Limits::greatest(), events, connection)?,
-    };
-    watch(alloc, config, Limits::greatest(), events, connection, count)
+    let limits = Limits::greatest();
+    match cut {
+        Cut::At(count) => {
+            drop(copy);
+            watch(alloc, config, limits, events, connection, within(count))
+        }
+        Cut::All => match queued(alloc, copy, limits, events, connection) {
+            Ok(count) => watch(alloc, config, limits, events, connection, count),
+            Err(error) => {
+                drop(config);
+                Err(error)
+            }
+        },
+    }
 }
 
 fn config() -> Config

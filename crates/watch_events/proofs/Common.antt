@@ -1,7 +1,7 @@
 -- What most proofs here speak of, under one name.
 pub use Rattle.framing.specs.Reading.{reading_of}
-pub use Rattle.headline.specs.Concluding.{known_after, last_seen, remembered, told_within, WasSo}
-pub use Rattle.headline.specs.News.{Fits, IsAtRest, IsFollowed, IsSeenAfter, says_output, seen_at, seen_now, sight, Sight, sight_by}
+pub use Rattle.session_laws.specs.Concluding.{known_after, last_seen, remembered, told_within, WasSo}
+pub use Rattle.session_laws.specs.News.{Fits, IsAtRest, IsFollowed, IsSeenAfter, says_output, seen_at, seen_now, sight, Sight, sight_by}
 pub use Rattle.mirror.proofs.Streaming.{error_more, messages_more, waits_by}
 pub use Rattle.mirror.specs.Streams.{after, after_input, body_limit, error_in, error_of, FeedsPast, first_fault, Input, message_of, messages_of, messages_so_far, nothing_past, Past, StandsFor, stream_fault, TellsPast, with_request}
 pub use Rattle.replies.specs.declared.message.Message.{Message}

@@ -19,14 +19,14 @@ use Rattle.session.specs.declared.config.Config.{Config}
 use Rattle.session.specs.declared.limits.Limits.{Limits}
 use Rattle.mirror.specs.declared.asked.Asked.{Asked}
 use Rattle.watch_events.proofs.Events.{after_more}
-use Rattle.headline.proofs.Editing.{fed_first, is_editor}
-use Rattle.headline.specs.Headline.{MirrorsHoldWhatWasSo}
-use Rattle.headline.proofs.Mirrored.{mirrors_hold}
-use Rattle.headline.specs.Holding.{Holds}
-use Rattle.headline.specs.Editors.{fed_in, requests_in, told_first}
-use Rattle.headline.specs.Headline.{HoldsWhatWasSo, WereSo, known_within}
-use Rattle.message_laws.proofs.Readable.{messages_are_readable}
-use Rattle.message_laws.specs.Messages.{HasPath, IsPath}
+use Rattle.session_laws.proofs.Headline.Editing.{fed_first, is_editor}
+use Rattle.session_laws.specs.Headline.{MirrorsHoldWhatWasSo}
+use Rattle.session_laws.proofs.Headline.Mirrored.{mirrors_hold}
+use Rattle.session_laws.specs.Holding.{Holds}
+use Rattle.session_laws.specs.Editors.{fed_in, requests_in, told_first}
+use Rattle.session_laws.specs.Headline.{HoldsWhatWasSo, WereSo, known_within}
+use Rattle.session_laws.proofs.Messages.Readable.{messages_are_readable}
+use Rattle.session_laws.specs.Messages.{HasPath, IsPath}
 use Rattle.watch_events.specs.Replaying.{Begun, HoldsOf, IsMade, IsWatched, Queues, queued_for, Watches}
 use Rattle.watch_events.specs.declared.watching.WatchError.{WatchError}
 use Rattle.watch_events.specs.declared.watching.WatchError.TheVariants as watch

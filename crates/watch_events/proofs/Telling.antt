@@ -12,7 +12,7 @@ use Rattle.protocol.specs.declared.request.MessageError.{MessageError}
 use Rattle.protocol.specs.declared.request.MessageError.TheVariants as message
 use Rattle.protocol.specs.declared.request.Request.{Request as ARequest}
 use Rattle.queues.specs.Arrivals.{asks_in, asks_of}
-use Rattle.headline.specs.Editors.{requests_in}
+use Rattle.session_laws.specs.Editors.{requests_in}
 
 -- ---- one input more
 

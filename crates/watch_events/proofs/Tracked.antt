@@ -14,7 +14,7 @@ use Rattle.session.specs.declared.event.EventError.TheVariants as error
 use Rattle.session.specs.declared.event.Sliced.{Sliced}
 use Rattle.session.specs.declared.event.Turned.{Turned}
 use Rattle.watch_events.proofs.Events.{connect_keeps, drop_keeps, hold_keeps, reached_next, recv_keeps, refused_keeps, sent_keeps}
-use Rattle.headline.proofs.Seen.{seen_after}
+use Rattle.session_laws.proofs.Headline.Seen.{seen_after}
 use Rattle.watch_events.proofs.Tracking.{noted_keeps, with_session}
 
 -- ---- an event that is refused

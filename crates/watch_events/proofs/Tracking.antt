@@ -11,12 +11,12 @@ use Rattle.session_laws.proofs.Waiting.{every_byte_is_taken_or_waits}
 use Rattle.session_laws.specs.Laws.{EveryByteIsTakenOrWaits}
 use Rattle.snapshots.specs.Shown.{Snapshot}
 use Rattle.session.specs.declared.link.Link.{Link}
-use Rattle.headline.proofs.Mirrored.{all_are_readable}
-use Rattle.headline.proofs.Readable.{IsReadable, framed_some, has_no_fault, messages_within, told_hold}
-use Rattle.headline.specs.News.{as_running}
-use Rattle.headline.specs.Printed.{PrintsRunning}
-use Rattle.headline.proofs.Printed.{what_is_printed_runs}
-use Rattle.message_laws.proofs.Readable.{messages_are_readable}
+use Rattle.session_laws.proofs.Headline.Mirrored.{all_are_readable}
+use Rattle.session_laws.proofs.Headline.Readable.{IsReadable, framed_some, has_no_fault, messages_within, told_hold}
+use Rattle.session_laws.specs.News.{as_running}
+use Rattle.session_laws.specs.Printed.{PrintsRunning}
+use Rattle.session_laws.proofs.Headline.Printed.{what_is_printed_runs}
+use Rattle.session_laws.proofs.Messages.Readable.{messages_are_readable}
 
 -- ---- lives
 

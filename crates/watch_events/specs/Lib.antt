@@ -6,6 +6,6 @@ pub mod Replaying
 pub mod Private
 -- ---- of the crates below
 -- what an editor knows by the bytes that it got, and whether that is so
-pub use Rattle.headline.specs.Concluding
-pub use Rattle.headline.specs.Headline
-pub use Rattle.headline.specs.Holding
+pub use Rattle.session_laws.specs.Concluding
+pub use Rattle.session_laws.specs.Headline
+pub use Rattle.session_laws.specs.Holding

@@ -16,11 +16,11 @@ use Rattle.session.specs.declared.config.Config.{Config}
 use Rattle.session.specs.declared.config.ConfigError.TheVariants as config
 use Rattle.session.specs.declared.event.Event.{Event}
 use Rattle.session.specs.declared.limits.Limits.{Limits}
-use Rattle.headline.specs.Concluding.{last_seen, told_within}
-use Rattle.headline.specs.Editors.{told_first}
-use Rattle.headline.specs.Headline.{known_within}
-use Rattle.headline.specs.Holding.{Holds}
-use Rattle.headline.specs.News.{Sight, sight}
+use Rattle.session_laws.specs.Concluding.{last_seen, told_within}
+use Rattle.session_laws.specs.Editors.{told_first}
+use Rattle.session_laws.specs.Headline.{known_within}
+use Rattle.session_laws.specs.Holding.{Holds}
+use Rattle.session_laws.specs.News.{Sight, sight}
 use Rattle.watch_events.specs.declared.watching.WatchError.{WatchError}
 use Rattle.watch_events.specs.declared.watching.WatchError.TheVariants as watch
 use Rattle.watch_events.specs.declared.watching.Watched.{Watched}

@@ -1,7 +1,7 @@
 //! The last message in some bytes.
 ghost use Rattle.std.specs.Prelude.{◌≡◌, IfOk, None, option_map};
 ghost use Rattle.mirror.specs.Streams.{message_of, messages_so_far, stream_fault};
-ghost use Rattle.headline.specs.News as spec;
+ghost use Rattle.session_laws.specs.News as spec;
 ghost use Rattle.watch_events.specs.Private.Tracking.{SaidBy, last_from};
 
 use crate::bodies::bodies_of;

@@ -88,7 +88,12 @@ impl Track {
     pub(crate) fn into_snapshot(self) -> Option<Snapshot>
         ensures { result ≡ self.snapshot }
     {
-        let Track { snapshot, .. } = self;
+        let Track {
+            session,
+            snapshot,
+            ..
+        } = self;
+        drop(session);
         snapshot
     }
 

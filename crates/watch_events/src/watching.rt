@@ -1,7 +1,7 @@
 //! What an editor knows, beside what could be seen.
 ghost use Rattle.std.specs.Prelude.{◌≡◌, IfOk, OnOk};
 ghost use Rattle.protocol.specs.Reading.{incoming_of};
-ghost use Rattle.message_laws.specs.Messages.{IsPath};
+ghost use Rattle.session_laws.specs.Messages.{IsPath};
 ghost use Rattle.watch_events.specs.Private.Replaying as inner;
 ghost use Rattle.watch_events.specs.Replaying.{Queues, Watches};
 ghost use Rattle.watch_events.specs.Private.Replaying.{CountsQueued, IsTold, Mirrors, Runs, Shows, TellsAll, TellsBody, TellsOne};
@@ -73,7 +73,10 @@ fn shown(alloc: Global, track: Track, count: usize) -> Result<Watched, WatchErro
             mirror,
             snapshot: track.into_snapshot(),
         }),
-        Err(error) => Err(error),
+        Err(error) => {
+            drop(track);
+            Err(error)
+        }
     }
 }
 
@@ -106,7 +109,9 @@ pub fn queued(
     ensures { Queues config limits events.now connection result }
 {
     let track = replayed(alloc, config, limits, events, connection, 0)?;
-    queued_in(&track)
+    let count = queued_in(&track);
+    drop(track);
+    count
 }
 
 // How many bytes were queued for the connection that was watched.
@@ -140,7 +145,10 @@ fn replayed(
     for event in events {
         match track.happen(event) {
             Ok(()) => {}
-            Err(_) => return Err(WatchError::NoMemory),
+            Err(_) => {
+                drop(track);
+                return Err(WatchError::NoMemory);
+            }
         }
     }
     Ok(track)

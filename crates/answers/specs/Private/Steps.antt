@@ -3,9 +3,9 @@ use Rattle.std.specs.Prelude.{◌≡◌, ℕ, ◌+◌, ◌==◌, min, if◌then�
 use Rattle.std.specs.Prelude.{Result, Ok, Err, option_map, map}
 use Rattle.image.specs.Lines.{Table}
 use Rattle.message_parts.specs.declared.stack_trace.StackFrame.{StackFrame}
-use Rattle.expressions.specs.Nodes.{tree_of}
-use Rattle.expressions.specs.Trees.{Tree}
-use Rattle.expressions.specs.declared.node.Node.{Node}
+use Rattle.breakpoints.specs.Nodes.{tree_of}
+use Rattle.breakpoints.specs.Trees.{Tree}
+use Rattle.breakpoints.specs.declared.node.Node.{Node}
 use Rattle.breakpoints.specs.Stops.{Wanted, wanted_by}
 use Rattle.answers.specs.Breakpoints.{followed_by, next_after}
 use Rattle.answers.specs.StackTrace.{frame}

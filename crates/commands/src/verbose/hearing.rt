@@ -4,7 +4,7 @@ use crate::ending::say;
 use crate::verbose::arguments::slip_in;
 use crate::verbose::reasons::{Reason, Reasons};
 use crate::verbose::stream::Stream;
-use expressions::{Expr, ExprError};
+use breakpoints::{Expr, ExprError};
 use framing::FrameError;
 use protocol::{Command, Incoming, MessageError, Refusal, read_request};
 use serde_json::Value;

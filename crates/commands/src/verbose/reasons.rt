@@ -2,7 +2,7 @@
 ghost use Rattle.std.specs.Prelude.{◌<◌, IfSome, vec_len};
 
 use crate::verbose::arguments::Slip;
-use expressions::ExprError;
+use breakpoints::ExprError;
 use std::alloc::Global;
 
 /// What is wrong with a request.

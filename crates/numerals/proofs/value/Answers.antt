@@ -2,9 +2,8 @@ use Rattle.std.proofs.Common.{◌≡◌, ◌+◌, ◌*◌, ◌<◌, drop, slice_
 use Rattle.std.specs.Char.{digit_value}
 use Rattle.std.specs.Str.Parse.{digits_value, digits_value_after}
 use Rattle.numerals.proofs.Values.{value_past, too_large}
-use Rattle.numerals.proofs.value.Goals as goal
 
-pub returns-then-value-from : goal.returns-then-value-from
+pub returns-then-value-from : Rattle.numerals.proofs.value.Goals.returns-then-value-from
 returns-then-value-from c =
     let v = c.loop-digit.value in
     let ds = c.args.digits.now in

@@ -1,8 +1,7 @@
 use Rattle.std.proofs.Common.{◌≡◌, ◌≤◌, drop}
 use Rattle.std.specs.Str.Parse.{digits_value, digits_value_after}
-use Rattle.numerals.proofs.value.Given as goal
 
-abbrev pub invariant-loop-digit : goal.invariant-loop-digit
+abbrev pub invariant-loop-digit : Rattle.numerals.proofs.value.Given.invariant-loop-digit
 invariant-loop-digit l = record {
   small : l.value ≤ 4294967295;
   same : digits_value l.radix l.digits ≡ digits_value_after l.radix l.value (drop l.digit-index l.digits);

@@ -1,7 +1,6 @@
 use Rattle.std.proofs.Common.{arith, length, ap, ◌∙◌, ◌≤◌}
-use Rattle.test_watch_events.proofs.path_of.Goals as goal
 
-pub returns : goal.returns
+pub returns : Rattle.test_watch_events.proofs.path_of.Goals.returns
 returns c =
     let long = ap length (c.from_string.ensures.value ∙ c.in_ok-own.ensures.cases) in
     let value = ap length c.as_bytes.ensures.value in

@@ -1,5 +1,5 @@
 -- For private clauses alone, beside `Conversing`.
-use Rattle.std.specs.Prelude.{◌≡◌, ◌⊎◌, ℕ, ◌+◌, Bool, true, false, List, [], ◌++◌, length, drop, Option, Some, None, is_some, Result, Ok, Err, codes}
+use Rattle.std.specs.Prelude.{◌≡◌, ◌⊎◌, ℕ, ◌+◌, Bool, true, false, List, [], ◌++◌, drop, Option, Some, None, is_some, Result, Ok, Err, codes}
 use Rattle.std.specs.Io.KnownBytes.{Appends}
 use Rattle.framing.specs.Reading.{Tail, reading_of}
 use Rattle.framing.specs.Reading.Tail.{Partial}
@@ -8,7 +8,6 @@ use Rattle.scripts.specs.declared.step.Step.{Step}
 use Rattle.session.specs.Effects.{ran_out}
 use Rattle.session.specs.Kept.{Kept, Stands}
 use Rattle.session.specs.Sessions.{Session}
-use Rattle.session.specs.declared.config.Config.{Config}
 use Rattle.session.specs.declared.config.ConfigError.{ConfigError}
 use Rattle.session.specs.declared.config.ConfigError.TheVariants as config
 use Rattle.session.specs.declared.event.Applied.{Applied}
@@ -25,7 +24,7 @@ use Rattle.watch_command.specs.declared.asked.ReplayFault.{ReplayFault}
 use Rattle.watch_command.specs.declared.asked.ReplayFault.TheVariants as fault
 use Rattle.watch_command.specs.declared.asked.Unwritten.{Unwritten}
 use Rattle.watch_command.specs.declared.asked.Unwritten.TheVariants as unwritten
-use Rattle.watch_command.specs.Conversing.{came, tail_after, told_each, told, Talk, first, said, after, within, lines_of, HasPart, KnowsIf}
+use Rattle.watch_command.specs.Conversing.{came, tail_after, told_each, told, Talk, said, after, within, lines_of, HasPart, KnowsIf}
 
 -- whether no memory was left
 abbrev pub has_run_out : Applied → Bool

@@ -3,7 +3,6 @@ use Rattle.std.specs.Prelude.{◌≡◌, ℕ, List, Option}
 use Rattle.scripts.specs.declared.fault.ScriptFault.{ScriptFault}
 use Rattle.scripts.specs.declared.fault.ScriptFault.TheVariants.{Line, Write, NoMemory}
 use Rattle.scripts.specs.declared.step.Step.{Step}
-use Rattle.session.specs.declared.config.Config.{Config}
 use Rattle.session.specs.declared.event.Event.{Event}
 use Rattle.transport.specs.Files.{FileRead, KnownReads, Records}
 use Rattle.transport.specs.Rounds.{read_for}

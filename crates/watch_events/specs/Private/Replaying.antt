@@ -16,7 +16,7 @@ use Rattle.session.specs.declared.config.ConfigError.{ConfigError}
 use Rattle.session.specs.declared.config.ConfigError.TheVariants as config
 use Rattle.session.specs.declared.event.Event.{Event}
 use Rattle.session.specs.declared.limits.Limits.{Limits}
-use Rattle.headline.specs.Editors.{requests_in}
+use Rattle.session_laws.specs.Editors.{requests_in}
 use Rattle.watch_events.specs.Private.Tracking.{Tracked, Tracks, is_made}
 use Rattle.watch_events.specs.declared.watching.WatchError.{WatchError}
 use Rattle.watch_events.specs.declared.watching.WatchError.TheVariants as watch

@@ -12,9 +12,9 @@ use Rattle.snapshots.specs.Snapshots.{Captured, IsTaken, as_running}
 use Rattle.session.specs.declared.event.SliceEnd.{SliceEnd}
 use Rattle.session.specs.declared.event.Event.{Event}
 use Rattle.session.specs.declared.event.Event.TheVariants.{Slice}
-use Rattle.headline.specs.Concluding.{last_seen, told_within}
-use Rattle.headline.specs.News.{IsFollowed, says_output, sight}
-use Rattle.message_laws.specs.Messages.{HasPath}
+use Rattle.session_laws.specs.Concluding.{last_seen, told_within}
+use Rattle.session_laws.specs.News.{IsFollowed, says_output, sight}
+use Rattle.session_laws.specs.Messages.{HasPath}
 use Rattle.watch_events.specs.Replaying.{sight_in}
 
 -- a session, and the connection that is watched: which it is, and how many of its bytes; how many connections were made;

@@ -1,6 +1,6 @@
 use Rattle.answers.proofs.Common.{ap, Err, if_expression, Parses, subst, sym}
-use Rattle.expressions.specs.Nodes.{tree_of}
-use Rattle.expressions.specs.declared.error.ExprError.{ExprError}
+use Rattle.breakpoints.specs.Nodes.{tree_of}
+use Rattle.breakpoints.specs.declared.error.ExprError.{ExprError}
 use Rattle.answers.proofs.Reading.{expression_found, syntax, too_deep, too_long}
 use Rattle.answers.proofs.conditions.expression_of.Goals as goal
 

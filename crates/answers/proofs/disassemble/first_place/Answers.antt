@@ -1,6 +1,5 @@
 use Rattle.answers.proofs.Common.{arith, ints}
-use Rattle.answers.proofs.disassemble.first_place.Goals as goal
 
-pub returns-clause-place : goal.returns-clause-place
+pub returns-clause-place : Rattle.answers.proofs.disassemble.first_place.Goals.returns-clause-place
 returns-clause-place c =
     omega (arith, ints, c.from.ensures, c.from-2.ensures, c.from-3.ensures, c.ranges.reference.fits, c.ranges.offset.sfits, c.ranges.instructions.sfits)

@@ -1,5 +1,2 @@
-use Rattle.answers.proofs.Proper.{answers_are_proper}
-use Rattle.answers.proofs.laws.answers_are_proper.Goals as goal
-
-pub returns : goal.returns
-returns c = answers_are_proper
+pub returns : Rattle.answers.proofs.laws.answers_are_proper.Goals.returns
+returns c = Rattle.answers.proofs.Proper.answers_are_proper

@@ -1,5 +1,4 @@
 use Rattle.answers.proofs.ProperLooks.{bytes_are_proper, entries_are_proper}
-use Rattle.answers.proofs.laws.bytes_are_proper.Goals as goal
 
-pub returns : goal.returns
+pub returns : Rattle.answers.proofs.laws.bytes_are_proper.Goals.returns
 returns c = record { bytes = bytes_are_proper; entries = entries_are_proper }

@@ -1,5 +1,4 @@
 use Rattle.answers.proofs.ProperValues.{settings_keep_words, writings_fit}
-use Rattle.answers.proofs.laws.changes_fit.Goals as goal
 
-pub returns : goal.returns
+pub returns : Rattle.answers.proofs.laws.changes_fit.Goals.returns
 returns c = record { settings = settings_keep_words; writings = writings_fit }

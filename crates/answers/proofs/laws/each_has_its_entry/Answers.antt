@@ -1,5 +1,2 @@
-use Rattle.answers.proofs.Entries.{each_has_its_entry}
-use Rattle.answers.proofs.laws.each_has_its_entry.Goals as goal
-
-pub returns : goal.returns
-returns c = each_has_its_entry
+pub returns : Rattle.answers.proofs.laws.each_has_its_entry.Goals.returns
+returns c = Rattle.answers.proofs.Entries.each_has_its_entry

@@ -1,5 +1,2 @@
-use Rattle.answers.proofs.Entries.{numbers_follow}
-use Rattle.answers.proofs.laws.numbers_follow_each_other.Goals as goal
-
-pub returns : goal.returns
-returns c = numbers_follow
+pub returns : Rattle.answers.proofs.laws.numbers_follow_each_other.Goals.returns
+returns c = Rattle.answers.proofs.Entries.numbers_follow

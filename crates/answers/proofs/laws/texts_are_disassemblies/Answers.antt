@@ -1,5 +1,2 @@
-use Rattle.answers.proofs.Looks.{texts}
-use Rattle.answers.proofs.laws.texts_are_disassemblies.Goals as goal
-
-pub returns : goal.returns
-returns c = texts
+pub returns : Rattle.answers.proofs.laws.texts_are_disassemblies.Goals.returns
+returns c = Rattle.answers.proofs.Looks.texts

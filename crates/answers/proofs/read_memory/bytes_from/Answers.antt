@@ -1,8 +1,7 @@
 use Rattle.answers.proofs.Common.{ap, arith, byte_at, rules, Some, sym, ◌+◌, ◌<◌, ◌^◌, ◌∙◌, ◌≡◌}
 use Rattle.answers.proofs.MemoryBytes.{one_more}
-use Rattle.answers.proofs.read_memory.bytes_from.Goals as goal
 
-pub loop-index-preserved : goal.loop-index-preserved
+pub loop-index-preserved : Rattle.answers.proofs.read_memory.bytes_from.Goals.loop-index-preserved
 loop-index-preserved c =
     let place : c.in-Some.place ≡ c.args.address + c.loop-index.index = search rules in
     let small : c.args.address + c.loop-index.index < 2 ^ 32 = search rules in

@@ -2,9 +2,8 @@ use Rattle.answers.specs.SetFunctionBreakpoints as spec
 use Rattle.answers.specs.SetInstructionBreakpoints.{entry, wanted}
 use Rattle.answers.specs.Private.Steps.{list_in}
 use Rattle.answers.proofs.Lists.{entries_on, list_on, next_small}
-use Rattle.answers.proofs.set_function_breakpoints.entries_of.Goals as goal
 
-pub loop-breakpoint-preserved : goal.loop-breakpoint-preserved
+pub loop-breakpoint-preserved : Rattle.answers.proofs.set_function_breakpoints.entries_of.Goals.loop-breakpoint-preserved
 loop-breakpoint-preserved c =
     let takes = c.in_ok-entry.ensures.takes in
     let asked = c.args.asked.now in

@@ -1,8 +1,7 @@
 use Rattle.answers.proofs.Common.{arith, Bor, List, MatchOption, Option, strip_prefix_char, subst, sym, ℕ, ◌∙◌, ◌∷◌, ◌≡◌, ◌≢◌}
 use Rattle.answers.proofs.Trimming.{none_leads}
-use Rattle.answers.proofs.spaces.without_leading_spaces.Goals as goal
 
-pub returns : goal.returns
+pub returns : Rattle.answers.proofs.spaces.without_leading_spaces.Goals.returns
 returns c =
     let left = c.loop-rest.left.now in
     let h = strip_prefix_char 32 left c.strip_prefix.result c.strip_prefix.ensures.cases (omega arith) in

@@ -1,8 +1,7 @@
 use Rattle.answers.proofs.Common.{[], arith, Bor, List, MatchOption, Option, strip_suffix_char, subst, sym, ℕ, ◌++◌, ◌∙◌, ◌∷◌, ◌≡◌, ◌≢◌}
 use Rattle.answers.proofs.Trimming.{none_trails}
-use Rattle.answers.proofs.spaces.without_trailing_spaces.Goals as goal
 
-pub returns : goal.returns
+pub returns : Rattle.answers.proofs.spaces.without_trailing_spaces.Goals.returns
 returns c =
     let left = c.loop-rest.left.now in
     let h = strip_suffix_char 32 left c.strip_suffix.result c.strip_suffix.ensures.cases (omega arith) in

@@ -1,7 +1,6 @@
 use Rattle.answers.proofs.Common.{addresses, drop, frames_from, ◌++◌, ◌+◌, ◌≡◌}
-use Rattle.answers.proofs.stack_trace.frames.Given as goal
 
-abbrev pub invariant-loop-offset : goal.invariant-loop-offset
+abbrev pub invariant-loop-offset : Rattle.answers.proofs.stack_trace.frames.Given.invariant-loop-offset
 invariant-loop-offset l = record {
   frames : l.frames.items ++ frames_from l.lines l.view (addresses l.runner) (l.first + l.offset) (drop l.offset l.numbers) ≡ frames_from l.lines l.view (addresses l.runner) l.first l.numbers;
 }

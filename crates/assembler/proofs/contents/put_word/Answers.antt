@@ -1,9 +1,8 @@
 use Rattle.std.proofs.Common.{◌∙◌, ap, ◌++◌}
 use Rattle.std.proofs.lemmas.Result.{on_ok_weaker}
 use Rattle.assembler.proofs.Written.{one_word}
-use Rattle.assembler.proofs.contents.put_word.Goals as goal
 
-pub returns-clause-ok : goal.returns-clause-ok
+pub returns-clause-ok : Rattle.assembler.proofs.contents.put_word.Goals.returns-clause-ok
 returns-clause-ok c =
     on_ok_weaker c.push_all.result
     (λ h. one_word c.args.instr c.encode.result c.args.bytes.now.items _ c.encode.ensures.encodes

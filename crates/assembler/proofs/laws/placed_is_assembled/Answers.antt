@@ -1,5 +1,2 @@
-use Rattle.assembler.proofs.Made.{made as law}
-use Rattle.assembler.proofs.laws.placed_is_assembled.Goals as goal
-
-pub returns : goal.returns
-returns c = law
+pub returns : Rattle.assembler.proofs.laws.placed_is_assembled.Goals.returns
+returns c = Rattle.assembler.proofs.Made.made

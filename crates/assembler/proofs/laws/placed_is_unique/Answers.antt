@@ -1,5 +1,2 @@
-use Rattle.assembler.proofs.Unique.{unique}
-use Rattle.assembler.proofs.laws.placed_is_unique.Goals as goal
-
-pub returns : goal.returns
-returns c = unique
+pub returns : Rattle.assembler.proofs.laws.placed_is_unique.Goals.returns
+returns c = Rattle.assembler.proofs.Unique.unique

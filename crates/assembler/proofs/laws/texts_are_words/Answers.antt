@@ -1,5 +1,2 @@
-use Rattle.assembler.proofs.Texts.{words}
-use Rattle.assembler.proofs.laws.texts_are_words.Goals as goal
-
-pub returns : goal.returns
-returns c = words
+pub returns : Rattle.assembler.proofs.laws.texts_are_words.Goals.returns
+returns c = Rattle.assembler.proofs.Texts.words

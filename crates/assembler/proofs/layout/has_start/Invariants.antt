@@ -1,5 +1,4 @@
 use Rattle.assembler.proofs.Common.{bytes_eq, drop, list_any, start, ◌≡◌}
-use Rattle.assembler.proofs.layout.has_start.Given as goal
 
-abbrev pub invariant-loop-name : goal.invariant-loop-name
+abbrev pub invariant-loop-name : Rattle.assembler.proofs.layout.has_start.Given.invariant-loop-name
 invariant-loop-name l = list_any (λ name. bytes_eq name start) l.names ≡ list_any (λ name. bytes_eq name start) (drop l.name-index l.names)

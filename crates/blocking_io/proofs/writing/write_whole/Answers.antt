@@ -1,8 +1,7 @@
 use Rattle.std.proofs.Common.{rules}
 use Rattle.blocking_io.proofs.Written.{more_written}
-use Rattle.blocking_io.proofs.writing.write_whole.Goals as goal
 
-pub loop-written-preserved : goal.loop-written-preserved
+pub loop-written-preserved : Rattle.blocking_io.proofs.writing.write_whole.Goals.loop-written-preserved
 loop-written-preserved g c = record {
   within = search rules;
   appended =

@@ -1,7 +1,6 @@
 use Rattle.breakpoints.proofs.Common.{ids_where, length, list_any, stands, take, vec_capacity, vec_len, ◌++◌, ◌+◌, ◌-◌, ◌≡◌, ◌≤◌}
-use Rattle.breakpoints.proofs.breaks.look_at.Given as goal
 
-abbrev pub invariant-loop-breakpoint : goal.invariant-loop-breakpoint
+abbrev pub invariant-loop-breakpoint : Rattle.breakpoints.proofs.breaks.look_at.Given.invariant-loop-breakpoint
 invariant-loop-breakpoint l = record {
   ids : l.ids.items ≡ l.fn.ids.items ++ ids_where (stands l.pc l.hart l.memory) (take l.breakpoint-index l.list);
   found : l.found ≡ list_any (stands l.pc l.hart l.memory) (take l.breakpoint-index l.list);

@@ -1,9 +1,8 @@
 use Rattle.std.proofs.Common.{ℕ, List, ◌++◌, map, ap, ◌∙◌}
 use Rattle.std.proofs.lemmas.Result.{IfOk-weaker}
 use Rattle.breakpoints.proofs.Lists.{places_cover}
-use Rattle.breakpoints.proofs.breaks.places_of.Goals as goal
 
-pub returns : goal.returns
+pub returns : Rattle.breakpoints.proofs.breaks.places_of.Goals.returns
 returns c =
     let two = c.in_ok-push_addresses-2.ensures
     ∙ ap (λ (xs : List ℕ). xs ++ map (λ b. b.address) c.args.instructions.now)

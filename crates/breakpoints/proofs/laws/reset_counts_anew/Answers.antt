@@ -1,5 +1,2 @@
-use Rattle.breakpoints.proofs.Counting.{stops_so}
-use Rattle.breakpoints.proofs.laws.reset_counts_anew.Goals as goal
-
-pub returns : goal.returns
-returns c = stops_so
+pub returns : Rattle.breakpoints.proofs.laws.reset_counts_anew.Goals.returns
+returns c = Rattle.breakpoints.proofs.Counting.stops_so

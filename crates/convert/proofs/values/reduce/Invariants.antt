@@ -1,5 +1,2 @@
-use Rattle.std.proofs.Common.{vec_len}
-use Rattle.convert.proofs.values.reduce.Given as goal
-
-abbrev pub decreases-waiting : goal.decreases-waiting
-decreases-waiting l = vec_len l.waiting
+abbrev pub decreases-waiting : Rattle.convert.proofs.values.reduce.Given.decreases-waiting
+decreases-waiting l = Rattle.std.proofs.Common.vec_len l.waiting

@@ -1,8 +1,7 @@
 use Rattle.course.proofs.Common.{AreKnown, arith, Entry, forgotten, List, subst, sym, ℕ, ◌%◌, ◌*◌, ◌+◌, ◌/◌, ◌∙◌, ◌≡◌}
 use Rattle.course.proofs.Remembering.{known_forgotten}
-use Rattle.course.proofs.places.forget_words.Goals as goal
 
-pub loop-k-preserved : goal.loop-k-preserved
+pub loop-k-preserved : Rattle.course.proofs.places.forget_words.Goals.loop-k-preserved
 loop-k-preserved c =
     let from : ℕ = c.args.addr / 4 * 4 in
     let at : ℕ = from + 4 * c.loop-k.k in

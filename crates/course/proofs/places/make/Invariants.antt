@@ -1,7 +1,6 @@
 use Rattle.course.proofs.Common.{length, Makes, vec_capacity, ◌≡◌}
-use Rattle.course.proofs.places.make.Given as goal
 
-abbrev pub invariant-loop-k : goal.invariant-loop-k
+abbrev pub invariant-loop-k : Rattle.course.proofs.places.make.Given.invariant-loop-k
 invariant-loop-k l = record {
   here : length l.entries.items ≡ l.k;
   makes : Makes l.k l.fn.entries.items l.entries.items;

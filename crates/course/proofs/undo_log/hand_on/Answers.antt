@@ -1,8 +1,7 @@
 use Rattle.course.proofs.Common.{ap, buffer, keep_last, List, Move, ◌++◌, ◌∙◌}
 use Rattle.course.proofs.Logging.{handed_on}
-use Rattle.course.proofs.undo_log.hand_on.Goals as goal
 
-pub returns-clause-ring : goal.returns-clause-ring
+pub returns-clause-ring : Rattle.course.proofs.undo_log.hand_on.Goals.returns-clause-ring
 returns-clause-ring c =
     let ring = c.args.ring.now in
     handed_on ring c.extend_from_slice.new.self c.args.newest.now.items c.clear.new.self.items c.requires

@@ -1,5 +1,2 @@
-use Rattle.stepping.proofs.Existing.{the_tick}
-use Rattle.debuggee.proofs.laws.moves_are_ticks.Goals as goal
-
-pub returns : goal.returns
-returns c p = (the_tick p.machine).is
+pub returns : Rattle.debuggee.proofs.laws.moves_are_ticks.Goals.returns
+returns c p = (Rattle.stepping.proofs.Existing.the_tick p.machine).is

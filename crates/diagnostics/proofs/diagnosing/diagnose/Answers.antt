@@ -1,7 +1,6 @@
 use Rattle.diagnostics.proofs.Common.{All-map, ap, diagnosis, finding_of, findings_of, HasColumn, ◌∙◌}
-use Rattle.diagnostics.proofs.diagnosing.diagnose.Goals as goal
 
-pub returns : goal.returns
+pub returns : Rattle.diagnostics.proofs.diagnosing.diagnose.Goals.returns
 returns c = (
   findings_of c.in_ok-list.list.items,
   record {

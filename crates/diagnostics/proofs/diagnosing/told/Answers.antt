@@ -1,7 +1,6 @@
 use Rattle.diagnostics.proofs.Common.{ap, finding_of, told, ◌++◌, ◌∙◌}
-use Rattle.diagnostics.proofs.diagnosing.told.Goals as goal
 
-pub returns : goal.returns
+pub returns : Rattle.diagnostics.proofs.diagnosing.told.Goals.returns
 returns c =
     let found = finding_of c.in_ok-told.told in (
       found,

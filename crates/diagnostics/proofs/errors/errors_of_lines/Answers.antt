@@ -1,7 +1,6 @@
 use Rattle.diagnostics.proofs.Common.{ap, errors_found, IfOk, line_errors, lines, located_among, located_in, map, subst, ◌∙◌, ◌≡◌}
-use Rattle.diagnostics.proofs.errors.errors_of_lines.Goals as goal
 
-pub returns-clause-errors : goal.returns-clause-errors
+pub returns-clause-errors : Rattle.diagnostics.proofs.errors.errors_of_lines.Goals.returns-clause-errors
 returns-clause-errors c =
     let texts : map (λ t. t.now) c.in_ok-texts.texts.items ≡ lines c.args.text.now = c.in_ok-texts.ensures.lines in
     let first = ap (map (λ t. t.now)) c.as_slice.ensures.value ∙ texts in

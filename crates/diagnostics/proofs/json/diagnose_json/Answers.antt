@@ -1,8 +1,7 @@
 use Rattle.diagnostics.proofs.Common.{All-map, ap, finding_of, findings_of, HasColumn, ◌∙◌}
 use Rattle.diagnostics.specs.Json.{diagnosis_json}
-use Rattle.diagnostics.proofs.json.diagnose_json.Goals as goal
 
-pub returns : goal.returns
+pub returns : Rattle.diagnostics.proofs.json.diagnose_json.Goals.returns
 returns c = (
   findings_of c.in_ok-list.list.items,
   record {

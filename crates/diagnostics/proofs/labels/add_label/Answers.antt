@@ -1,7 +1,6 @@
 use Rattle.diagnostics.proofs.Common.{added, sym, ◌∙◌}
-use Rattle.diagnostics.proofs.labels.add_label.Goals as goal
 
-pub returns-clause-labels : goal.returns-clause-labels
+pub returns-clause-labels : Rattle.diagnostics.proofs.labels.add_label.Goals.returns-clause-labels
 returns-clause-labels c =
     let none = sym c.is_defined.ensures ∙ c.if-is_defined.false in
     rw none

@@ -1,7 +1,6 @@
 use Rattle.diagnostics.proofs.Common.{defines_twice, drop, labels_of, with_labels, ◌||◌, ◌≡◌}
-use Rattle.diagnostics.proofs.labels.add_labels.Given as goal
 
-abbrev pub invariant-loop-name : goal.invariant-loop-name
+abbrev pub invariant-loop-name : Rattle.diagnostics.proofs.labels.add_labels.Given.invariant-loop-name
 invariant-loop-name l = record {
   again : defines_twice l.address (labels_of l.initial.labels.entries) l.names
       ≡ (l.again || defines_twice l.address (labels_of l.labels.entries) (drop l.name-index l.names));

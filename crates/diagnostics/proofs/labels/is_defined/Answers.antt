@@ -1,6 +1,5 @@
 use Rattle.diagnostics.proofs.Common.{ap, looked_up, ◌∙◌}
 use Rattle.std.specs.Option.{is_some}
-use Rattle.diagnostics.proofs.labels.is_defined.Goals as goal
 
-pub returns : goal.returns
+pub returns : Rattle.diagnostics.proofs.labels.is_defined.Goals.returns
 returns c = c.contains_key.ensures ∙ ap is_some (looked_up c.args.labels.now.entries c.args.name.now)

@@ -1,5 +1,4 @@
 use Rattle.diagnostics.proofs.Common.{left, option_copied}
-use Rattle.diagnostics.proofs.operands.operand_at.Given as goal
 
-abbrev pub decreases-fields : goal.decreases-fields
+abbrev pub decreases-fields : Rattle.diagnostics.proofs.operands.operand_at.Given.decreases-fields
 decreases-fields l = left (option_copied l.rest)

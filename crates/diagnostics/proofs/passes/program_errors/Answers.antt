@@ -1,13 +1,12 @@
 use Rattle.diagnostics.proofs.Common.{[], arith, eqb-true, errors_found, IfOk, labels_of, length, List, program_of, refl, subst, sym, vec_len, ◌∙◌, ◌∷◌, ◌≡◌}
 use Rattle.diagnostics.specs.declared.found.Found.{Found}
 use Rattle.diagnostics.proofs.Finding.{next_pass}
-use Rattle.diagnostics.proofs.passes.program_errors.Goals as goal
 
 none_found : (list : List Found) → length list ≡ 0 → errors_found list ≡ []
 none_found [] h = refl
 none_found (found ∷ others) h = absurd (omega (arith, h))
 
-pub returns : goal.returns
+pub returns : Rattle.diagnostics.proofs.passes.program_errors.Goals.returns
 returns c =
     let found = c.in_ok-found.field-0.found in
     let none : vec_len found ≡ 0 = eqb-true (vec_len found) 0 (sym c.is_empty.ensures ∙ c.if-not-is_empty.false) in

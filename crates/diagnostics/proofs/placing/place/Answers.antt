@@ -1,8 +1,7 @@
 use Rattle.diagnostics.proofs.Common.{ap, defines_twice, labels_of, misplaced_so, source_of, unwrap_or, ◌∙◌}
 use Rattle.diagnostics.proofs.Finding.{misplaced_same}
-use Rattle.diagnostics.proofs.placing.place.Goals as goal
 
-pub returns-clause-kind : goal.returns-clause-kind
+pub returns-clause-kind : Rattle.diagnostics.proofs.placing.place.Goals.returns-clause-kind
 returns-clause-kind c =
     let before = labels_of c.args.reached.now.labels.entries in
     let address = c.args.reached.now.address in

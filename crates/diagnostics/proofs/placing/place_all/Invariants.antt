@@ -1,7 +1,6 @@
 use Rattle.diagnostics.proofs.Common.{[], drop, errors_found, first_address, labels_after, labels_of, LiesWithin, place_errors, program_of, Some, ◌++◌, ◌≡◌}
-use Rattle.diagnostics.proofs.placing.place_all.Given as goal
 
-abbrev pub invariant-loop-source : goal.invariant-loop-source
+abbrev pub invariant-loop-source : Rattle.diagnostics.proofs.placing.place_all.Given.invariant-loop-source
 invariant-loop-source l = record {
   within : LiesWithin l.limit l.reached.address;
   errors : place_errors l.limit [] (Some first_address) (program_of l.program)

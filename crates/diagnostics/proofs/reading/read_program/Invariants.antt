@@ -1,7 +1,6 @@
 use Rattle.diagnostics.proofs.Common.{all_read, drop, map, program_of, said_lines, ◌++◌, ◌+◌, ◌≡◌}
-use Rattle.diagnostics.proofs.reading.read_program.Given as goal
 
-abbrev pub invariant-loop-text : goal.invariant-loop-text
+abbrev pub invariant-loop-text : Rattle.diagnostics.proofs.reading.read_program.Given.invariant-loop-text
 invariant-loop-text l = record {
   count : l.number ≡ l.text-index;
   read : all_read (map (λ t. t.now) l.texts) ≡ all_read (map (λ t. t.now) (drop l.text-index l.texts));

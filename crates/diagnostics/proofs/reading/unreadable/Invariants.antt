@@ -1,7 +1,6 @@
 use Rattle.diagnostics.proofs.Common.{drop, errors_found, map, reading_errors, ◌++◌, ◌+◌, ◌≡◌}
-use Rattle.diagnostics.proofs.reading.unreadable.Given as goal
 
-abbrev pub invariant-loop-text : goal.invariant-loop-text
+abbrev pub invariant-loop-text : Rattle.diagnostics.proofs.reading.unreadable.Given.invariant-loop-text
 invariant-loop-text l = record {
   count : l.number ≡ l.text-index;
   errors : reading_errors 1 (map (λ t. t.now) l.texts)

@@ -1,7 +1,6 @@
 use Rattle.diagnostics.proofs.Common.{content_steps, drop, errors_found, first_address, labels_of, LiesWithin, program_of, Some, ◌++◌, ◌≡◌}
-use Rattle.diagnostics.proofs.targets.check_targets.Given as goal
 
-abbrev pub invariant-loop-source : goal.invariant-loop-source
+abbrev pub invariant-loop-source : Rattle.diagnostics.proofs.targets.check_targets.Given.invariant-loop-source
 invariant-loop-source l = record {
   within : LiesWithin l.limit l.address;
   errors : content_steps l.limit (labels_of l.labels.entries) (Some first_address) (program_of l.program)

@@ -1,8 +1,7 @@
 use Rattle.std.proofs.Common.{rules, string_bytes}
 use Rattle.execution.proofs.Told.{next_register}
-use Rattle.execution.proofs.registers.registers_text.Goals as goal
 
-pub loop-number-preserved : goal.loop-number-preserved
+pub loop-number-preserved : Rattle.execution.proofs.registers.registers_text.Goals.loop-number-preserved
 loop-number-preserved c =
     next_register c.args.hart.now.x c.loop-number.number (string_bytes c.loop-number.told)
     (string_bytes c.push_register-in-loop-number.new.told) _ (search rules)

@@ -1,8 +1,7 @@
 use Rattle.std.proofs.Common.{rules}
 use Rattle.execution.proofs.Told.{back_once, back_retires}
-use Rattle.execution.proofs.trace.go_back.Goals as goal
 
-pub loop-made-preserved : goal.loop-made-preserved
+pub loop-made-preserved : Rattle.execution.proofs.trace.go_back.Goals.loop-made-preserved
 loop-made-preserved c = (
   search rules,
   back_once c.loop-made.made c.args.runner.now c.loop-made.runner c.begin.new.self c.tick.new.self c.in_ok-tick.field-0

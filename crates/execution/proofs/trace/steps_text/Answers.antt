@@ -1,8 +1,7 @@
 use Rattle.std.proofs.Common.{rules, string_bytes, arith}
 use Rattle.execution.proofs.Told.{trace_more}
-use Rattle.execution.proofs.trace.steps_text.Goals as goal
 
-pub loop-made-preserved : goal.loop-made-preserved
+pub loop-made-preserved : Rattle.execution.proofs.trace.steps_text.Goals.loop-made-preserved
 loop-made-preserved c = (
   search rules,
   trace_more c.loop-made.made c.args.runner.now c.loop-made.runner c.push_step.new.runner (string_bytes c.loop-made.told)

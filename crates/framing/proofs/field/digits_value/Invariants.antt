@@ -1,5 +1,4 @@
 use Rattle.framing.proofs.Common.{digits_value, take, ◌≡◌}
-use Rattle.framing.proofs.field.digits_value.Given as goal
 
-abbrev pub invariant-loop-digit : goal.invariant-loop-digit
+abbrev pub invariant-loop-digit : Rattle.framing.proofs.field.digits_value.Given.invariant-loop-digit
 invariant-loop-digit l = l.value ≡ digits_value 10 (take l.digit-index l.digits)

@@ -1,5 +1,2 @@
-use Rattle.framing.specs.Private.Lines.{EndsPast}
-use Rattle.framing.proofs.header.header_size.Given as goal
-
-abbrev pub invariant-loop-i : goal.invariant-loop-i
-invariant-loop-i l = EndsPast l.i l.bytes
+abbrev pub invariant-loop-i : Rattle.framing.proofs.header.header_size.Given.invariant-loop-i
+invariant-loop-i l = Rattle.framing.specs.Private.Lines.EndsPast l.i l.bytes

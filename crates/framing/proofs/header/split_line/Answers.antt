@@ -1,10 +1,10 @@
-use Rattle.framing.proofs.Common.{ap, arith, drop, lines_of, sym, take, take_rest, ◌+◌, ◌-◌, ◌∙◌, ◌∷◌, ◌≡◌}
-use Rattle.framing.proofs.LineLemmas.{onto_line, onto_none, line_more, line_here, line_all}
+use Rattle.framing.proofs.Common.{ap, arith, drop, lines_of, refl, sym, take, take_rest, ◌+◌, ◌-◌, ◌∙◌, ◌∷◌, ◌≡◌}
+use Rattle.framing.proofs.LineLemmas.{onto_line, line_more, line_here, line_all}
 use Rattle.framing.proofs.header.split_line.Goals as goal
 use Rattle.framing.proofs.header.split_line.Goals.{else-lines-i-eq-CR-via-then-lines-i-eq-CR+else-lines-i-eq-LF, else-lines-i-eq-CR-via-else-lines-i-eq-CR}
 
 pub loop-i-init : goal.loop-i-init
-loop-i-init c = onto_none c.args.lines.now
+loop-i-init c = refl
 
 pub loop-i-preserved : goal.loop-i-preserved
 loop-i-preserved c =

@@ -1,5 +1,5 @@
-use Rattle.framing.proofs.Framing.{fault_is_unique as law}
-use Rattle.framing.proofs.laws.fault_is_unique.Goals as goal
+use Rattle.framing.proofs.Common.{sym, ◌∙◌}
+use Rattle.framing.proofs.Faults.{fault_read}
 
-pub returns : goal.returns
-returns c = law
+pub returns : Rattle.framing.proofs.laws.fault_is_unique.Goals.returns
+returns c = λ limit rest fault other a b. (let same = sym (fault_read limit rest fault a) ∙ fault_read limit rest other b in cc)

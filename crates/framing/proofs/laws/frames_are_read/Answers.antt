@@ -1,5 +1,4 @@
 use Rattle.framing.proofs.Minimal.{minimal_is_frame, minimal_is_read}
-use Rattle.framing.proofs.laws.frames_are_read.Goals as goal
 
-pub returns : goal.returns
+pub returns : Rattle.framing.proofs.laws.frames_are_read.Goals.returns
 returns c = λ limit body more h small. (minimal_is_frame limit body h small, minimal_is_read limit body more h small)

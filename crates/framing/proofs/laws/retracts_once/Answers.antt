@@ -1,5 +1,5 @@
-use Rattle.framing.proofs.Pasts.{retracts_once as law}
-use Rattle.framing.proofs.laws.retracts_once.Goals as goal
+use Rattle.framing.proofs.Common.{refl, retracted}
+use Rattle.framing.proofs.Pasts.{lent_keeps}
 
-pub returns : goal.returns
-returns c = law
+pub returns : Rattle.framing.proofs.laws.retracts_once.Goals.returns
+returns c = λ kept loans. rw (lent_keeps loans (retracted kept)).1 refl

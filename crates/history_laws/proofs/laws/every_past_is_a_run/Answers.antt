@@ -1,5 +1,2 @@
-use Rattle.history_laws.proofs.Recorded.{every_past_is_a_run}
-use Rattle.history_laws.proofs.laws.every_past_is_a_run.Goals as goal
-
-pub returns : goal.returns
-returns c = every_past_is_a_run
+pub returns : Rattle.history_laws.proofs.laws.every_past_is_a_run.Goals.returns
+returns c = Rattle.history_laws.proofs.Recorded.every_past_is_a_run

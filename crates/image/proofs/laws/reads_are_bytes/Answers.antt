@@ -1,5 +1,2 @@
-use Rattle.image.proofs.Maps.{reads_bytes as law}
-use Rattle.image.proofs.laws.reads_are_bytes.Goals as goal
-
-pub returns : goal.returns
-returns c = law
+pub returns : Rattle.image.proofs.laws.reads_are_bytes.Goals.returns
+returns c = Rattle.image.proofs.Maps.reads_bytes

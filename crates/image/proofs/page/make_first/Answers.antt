@@ -1,6 +1,3 @@
-use Rattle.image.specs.Private.Pages.{zeros}
-use Rattle.image.proofs.page.make_first.Goals as goal
-
-pub returns-clause-ok : goal.returns-clause-ok
-unfolding zeros
+pub returns-clause-ok : Rattle.image.proofs.page.make_first.Goals.returns-clause-ok
+unfolding Rattle.image.specs.Private.Pages.zeros
 returns-clause-ok c = c.in_ok-page.ensures

@@ -1,8 +1,7 @@
 use Rattle.image.proofs.Common.{ap, drop, length, nil_from_length, page_bytes, rules, sym, take, ◌∙◌, ◌≡◌}
 use Rattle.image.proofs.Reading.{blank_part}
-use Rattle.image.proofs.page.read.Goals as goal
 
-pub returns-then-is_empty : goal.returns-then-is_empty
+pub returns-then-is_empty : Rattle.image.proofs.page.read.Goals.returns-then-is_empty
 returns-then-is_empty c =
     let none : length c.args.page.now ≡ 0 = search rules in
     let n = length c.args.into.now in

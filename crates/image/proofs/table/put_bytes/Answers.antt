@@ -1,9 +1,8 @@
 use Rattle.image.proofs.Common.{ap, arith, drop, flat, length, put, rules, take, ◌+◌, ◌-◌, ◌/◌, ◌∙◌, ◌≡◌, ◌≤◌}
 use Rattle.image.proofs.Flat.{flat_length}
 use Rattle.image.proofs.Tables.{put_more}
-use Rattle.image.proofs.table.put_bytes.Goals as goal
 
-pub loop-done-preserved : goal.loop-done-preserved
+pub loop-done-preserved : Rattle.image.proofs.table.put_bytes.Goals.loop-done-preserved
 loop-done-preserved c =
     let ps = c.args.pages.now.items in
     let n = c.count_in_page-count.result in

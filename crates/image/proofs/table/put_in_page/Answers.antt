@@ -1,9 +1,8 @@
 use Rattle.image.proofs.Common.{ap, arith, Global, length, put, rules, Vec, with_items_is, ℕ, ◌%◌, ◌/◌, ◌∙◌, ◌≡◌}
 use Rattle.std.specs.Vec.{with_items}
 use Rattle.image.proofs.Tables.{put_here}
-use Rattle.image.proofs.table.put_in_page.Goals as goal
 
-pub returns-clause-puts : goal.returns-clause-puts
+pub returns-clause-puts : Rattle.image.proofs.table.put_in_page.Goals.returns-clause-puts
 returns-clause-puts c =
     let ps = c.args.pages.now.items in
     let page = c.index_mut.result.now in

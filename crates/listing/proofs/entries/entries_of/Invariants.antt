@@ -1,6 +1,2 @@
-use Rattle.std.proofs.Common.{string_bytes}
-use Rattle.listing.proofs.Listed.{ArePartly}
-use Rattle.listing.proofs.entries.entries_of.Given as goal
-
-abbrev pub invariant-loop-index : goal.invariant-loop-index
-invariant-loop-index l = ArePartly l.image l.index (string_bytes l.lines)
+abbrev pub invariant-loop-index : Rattle.listing.proofs.entries.entries_of.Given.invariant-loop-index
+invariant-loop-index l = Rattle.listing.proofs.Listed.ArePartly l.image l.index (Rattle.std.proofs.Common.string_bytes l.lines)

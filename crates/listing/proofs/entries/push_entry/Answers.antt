@@ -1,8 +1,7 @@
 use Rattle.std.proofs.Common.{ap, string_bytes}
 use Rattle.listing.specs.Entries.{entry}
-use Rattle.listing.proofs.entries.push_entry.Goals as goal
 
-pub returns : goal.returns
+pub returns : Rattle.listing.proofs.entries.push_entry.Goals.returns
 returns c = (
   entry c.args.address c.word_at-word.result (string_bytes c.in_ok-text.text),
   record {

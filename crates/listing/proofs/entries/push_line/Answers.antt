@@ -1,9 +1,8 @@
 use Rattle.std.proofs.Common.{[], ◌∷◌, string_bytes}
 use Rattle.rv32i.specs.Texts.{eight_digits}
 use Rattle.listing.proofs.Listed.{six_parts}
-use Rattle.listing.proofs.entries.push_line.Goals as goal
 
-pub returns : goal.returns
+pub returns : Rattle.listing.proofs.entries.push_line.Goals.returns
 unfolding lib.Utf8.encode
 returns c =
     six_parts (string_bytes c.args.lines.now) (eight_digits c.args.address) (32 ∷ []) (eight_digits c.args.word) (32 ∷ []) c.args.text.now

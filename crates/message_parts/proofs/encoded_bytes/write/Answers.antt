@@ -1,8 +1,7 @@
 use Rattle.std.proofs.Common.{refl, ◌∙◌}
 use Rattle.message_parts.proofs.Appending.{IsWritten-token}
-use Rattle.message_parts.proofs.encoded_bytes.write.Goals as goal
 
-pub returns : goal.returns
+pub returns : Rattle.message_parts.proofs.encoded_bytes.write.Goals.returns
 returns c =
     let is = c.as_str.ensures.value ∙ c.in_ok-text.ensures.text in
     IsWritten-token _ refl (tt, tt) c.string.result (rw is at c.string.ensures)

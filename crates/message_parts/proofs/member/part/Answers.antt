@@ -1,6 +1,3 @@
-use Rattle.message_parts.proofs.Appending.{member_if_written}
-use Rattle.message_parts.proofs.member.part.Goals as goal
-
-pub returns : goal.returns
+pub returns : Rattle.message_parts.proofs.member.part.Goals.returns
 returns g c =
-    member_if_written _ _ c.write.result c.in_ok-key.ensures c.write.ensures
+    Rattle.message_parts.proofs.Appending.member_if_written _ _ c.write.result c.in_ok-key.ensures c.write.ensures

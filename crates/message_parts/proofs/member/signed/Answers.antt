@@ -4,9 +4,8 @@ use mir.Val.{SFits, of_z, to_z}
 use Rattle.json.specs.Token.{number as digits}
 use Rattle.json.specs.Written.{Writes}
 use Rattle.message_parts.proofs.Appending.{member_if_written, IsWritten-signed}
-use Rattle.message_parts.proofs.member.signed.Goals as goal
 
-pub returns : goal.returns
+pub returns : Rattle.message_parts.proofs.member.signed.Goals.returns
 returns c =
     let fits : SFits w32 c.args.value = c.ranges.value in
     let wide : SFits w64 c.args.value = omega (arith, ints, fits) in

@@ -1,7 +1,6 @@
 use Rattle.std.proofs.Common.{refl}
 use Rattle.message_parts.proofs.Appending.{member_if_written, IsWritten-token}
-use Rattle.message_parts.proofs.member.text.Goals as goal
 
-pub returns : goal.returns
+pub returns : Rattle.message_parts.proofs.member.text.Goals.returns
 returns c =
     member_if_written _ _ c.string.result c.in_ok-key.ensures (IsWritten-token _ refl (tt, tt) c.string.result c.string.ensures)

@@ -1,7 +1,6 @@
 use Rattle.message_parts.proofs.Common.{drop, items_of, items_tokens, ItemsHaveSmallNumbers, ◌++◌, ◌≡◌}
-use Rattle.message_parts.proofs.part.write_each.Given as goal
 
-abbrev pub invariant-loop-entry : goal.invariant-loop-entry
+abbrev pub invariant-loop-entry : Rattle.message_parts.proofs.part.write_each.Given.invariant-loop-entry
 invariant-loop-entry g l = record {
   before : l.out.before ≡ l.initial.out.before;
   rest : l.out.tokens ++ items_tokens (items_of g.T.Part.form.value (drop l.entry-index l.entries)) ≡ l.initial.out.tokens ++ items_tokens (items_of g.T.Part.form.value l.entries);

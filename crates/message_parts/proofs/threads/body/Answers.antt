@@ -1,7 +1,6 @@
 use Rattle.message_parts.proofs.Appending.{object_written, object_is_written, member_written, array_is_written, item_then, no_item, and_then}
-use Rattle.message_parts.proofs.threads.body.Goals as goal
 
-pub returns : goal.returns
+pub returns : Rattle.message_parts.proofs.threads.body.Goals.returns
 returns c =
     object_written c.end_object-2.result c.in_ok-begin_object.ensures
     (member_written c.in_ok-key.ensures

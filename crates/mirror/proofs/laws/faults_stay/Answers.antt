@@ -1,5 +1,2 @@
-use Rattle.mirror.proofs.Lawful.{faults_stay as law}
-use Rattle.mirror.proofs.laws.faults_stay.Goals as goal
-
-pub returns : goal.returns
-returns c = law
+pub returns : Rattle.mirror.proofs.laws.faults_stay.Goals.returns
+returns c = Rattle.mirror.proofs.Lawful.faults_stay

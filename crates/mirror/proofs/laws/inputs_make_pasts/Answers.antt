@@ -1,5 +1,2 @@
-use Rattle.mirror.proofs.Lawful.{inputs_make_pasts as law}
-use Rattle.mirror.proofs.laws.inputs_make_pasts.Goals as goal
-
-pub returns : goal.returns
-returns c = law
+pub returns : Rattle.mirror.proofs.laws.inputs_make_pasts.Goals.returns
+returns c = Rattle.mirror.proofs.Lawful.inputs_make_pasts

@@ -1,9 +1,8 @@
 use Rattle.std.proofs.Common.{◌∙◌, ap₂}
 use Rattle.std.proofs.lemmas.Result.{IfOk-weaker}
 use Rattle.clap.specs.Words.{with_rule}
-use Rattle.options.proofs.command.with_options.Goals as goal
 
-pub returns : goal.returns
+pub returns : Rattle.options.proofs.command.with_options.Goals.returns
 returns c =
     let memory_is = c.in_ok-arg.ensures.shape c.memory.ensures.local ∙ ap₂ with_rule c.plain.ensures.app c.memory.ensures.rule in
     let listen_is = c.in_ok-arg-2.ensures.shape c.listen.ensures.local ∙ ap₂ with_rule memory_is c.listen.ensures.rule in

@@ -4,9 +4,8 @@ use Rattle.std.specs.List.{AllByRecursion}
 use Rattle.protocol.specs.Commands.{execution_requests, inspection_requests}
 use Rattle.protocol.specs.Rows.{Row}
 use Rattle.protocol.proofs.Requests.{others_skipped}
-use Rattle.protocol.proofs.command.execution_command.Goals as goal
 
-pub returns-in_default : goal.returns-in_default
+pub returns-in_default : Rattle.protocol.proofs.command.execution_command.Goals.returns-in_default
 unfolding execution_requests
 returns-in_default c =
     let others : AllByRecursion (λ (r : Row). c.args.name.now ≡ r.name → ⊥) execution_requests = search rules in

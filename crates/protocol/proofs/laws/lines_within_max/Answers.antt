@@ -1,6 +1,5 @@
 use Rattle.std.proofs.Common.{subst}
 use Rattle.protocol.proofs.Meanings.{IsSound, incoming_of-sound}
-use Rattle.protocol.proofs.laws.lines_within_max.Goals as goal
 
-pub returns : goal.returns
+pub returns : Rattle.protocol.proofs.laws.lines_within_max.Goals.returns
 returns c = λ body request is. (subst IsSound is (incoming_of-sound body)).1

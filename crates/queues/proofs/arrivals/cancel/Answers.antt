@@ -1,9 +1,8 @@
 use Rattle.std.proofs.Common.{◌<◌, true, false, length, sym, ◌∙◌, arith}
 use Rattle.queues.proofs.Arriving.{changes_next, fate_next}
 use Rattle.queues.proofs.arrivals.cancel.Goals.{then-mark, else-mark}
-use Rattle.queues.proofs.arrivals.cancel.Goals as goal
 
-pub loop-i-preserved : goal.loop-i-preserved
+pub loop-i-preserved : Rattle.queues.proofs.arrivals.cancel.Goals.loop-i-preserved
 loop-i-preserved c =
     let xs = c.args.pending.now.items in
     let ys = c.loop-i.pending.items in

@@ -1,5 +1,2 @@
-use Rattle.range_laws.proofs.Requests.{requests_give_bytes as law}
-use Rattle.range_laws.proofs.laws.requests_give_bytes.Goals as goal
-
-pub returns : goal.returns
-returns c = law
+pub returns : Rattle.range_laws.proofs.laws.requests_give_bytes.Goals.returns
+returns c = Rattle.range_laws.proofs.Requests.requests_give_bytes

@@ -1,7 +1,6 @@
 use Rattle.replies.proofs.Common.{and_then, event_body, if_then, object_written}
-use Rattle.replies.proofs.event.write.Goals as goal
 
-pub returns : goal.returns
+pub returns : Rattle.replies.proofs.event.write.Goals.returns
 returns c =
     let name = rw c.name.ensures at c.in_ok-text.ensures in
     object_written c.end_object.result c.in_ok-begin_object.ensures

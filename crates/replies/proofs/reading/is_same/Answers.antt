@@ -2,9 +2,8 @@ use Rattle.std.proofs.Common.{◌∙◌}
 use Rattle.replies.proofs.Bodies.{read-from_json_of}
 use Rattle.replies.proofs.Sameness.{bytes_eq-texts}
 use Rattle.replies.proofs.Values.{has_float-message_data}
-use Rattle.replies.proofs.reading.is_same.Goals as goal
 
-pub returns : goal.returns
+pub returns : Rattle.replies.proofs.reading.is_same.Goals.returns
 returns c =
     let text = c.in_ok-text.ensures in
     let written = c.in_ok-written.ensures in

@@ -1,7 +1,6 @@
 use Rattle.message_parts.proofs.Appending.{object_written, object_is_written, and_then, member_written}
-use Rattle.replies.proofs.writing.error.Goals as goal
 
-pub returns : goal.returns
+pub returns : Rattle.replies.proofs.writing.error.Goals.returns
 returns c =
     let format = rw c.format_of.ensures at c.in_ok-text.ensures in
     let id = rw c.id.ensures at c.in_ok-number.ensures in

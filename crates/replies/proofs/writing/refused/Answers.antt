@@ -1,7 +1,6 @@
 use Rattle.message_parts.proofs.Appending.{object_written, and_then, member_written}
-use Rattle.replies.proofs.writing.refused.Goals as goal
 
-pub returns : goal.returns
+pub returns : Rattle.replies.proofs.writing.refused.Goals.returns
 returns c =
     let name = rw c.name.ensures at c.in_ok-text-2.ensures in
     object_written c.end_object.result c.in_ok-begin_object.ensures

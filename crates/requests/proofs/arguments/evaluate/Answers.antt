@@ -1,6 +1,5 @@
 use Rattle.std.proofs.lemmas.Result.{on_ok_weaker}
 use Rattle.message_parts.proofs.Appending.{and_then}
-use Rattle.requests.proofs.arguments.evaluate.Goals as goal
 
-pub returns : goal.returns
+pub returns : Rattle.requests.proofs.arguments.evaluate.Goals.returns
 returns c = on_ok_weaker c.signed_if.result (λ last. and_then c.in_ok-part.ensures last) c.signed_if.ensures

@@ -1,6 +1,5 @@
 use Rattle.std.proofs.lemmas.Result.{on_ok_weaker}
 use Rattle.message_parts.proofs.Appending.{and_then}
-use Rattle.requests.proofs.arguments.write_memory.Goals as goal
 
-pub returns : goal.returns
+pub returns : Rattle.requests.proofs.arguments.write_memory.Goals.returns
 returns c = on_ok_weaker c.write_one.result (λ last. and_then c.in_ok-truth.ensures (and_then c.in_ok-member.ensures (and_then c.in_ok-part.ensures last))) c.write_one.ensures

@@ -4,9 +4,8 @@ use mir.Val.{SFits, of_z, to_z}
 use Rattle.json.specs.Token.{number as digits}
 use Rattle.json.specs.Written.{Writes}
 use Rattle.message_parts.proofs.Appending.{IsWritten-signed}
-use Rattle.requests.proofs.entry.write_integer.Goals as goal
 
-pub returns : goal.returns
+pub returns : Rattle.requests.proofs.entry.write_integer.Goals.returns
 returns c =
     let fits : SFits w32 c.args.number = c.ranges.number in
     let wide : SFits w64 c.args.number = omega (arith, ints, fits) in

@@ -1,7 +1,4 @@
-use Rattle.message_parts.proofs.Appending.{member_if_written}
-use Rattle.requests.proofs.entry.write_list.Goals as goal
-
-pub returns : goal.returns
+pub returns : Rattle.requests.proofs.entry.write_list.Goals.returns
 returns g c =
     let entries = rw c.as_slice.ensures at c.write_array.ensures in
-    member_if_written _ _ c.write_array.result c.in_ok-key.ensures entries
+    Rattle.message_parts.proofs.Appending.member_if_written _ _ c.write_array.result c.in_ok-key.ensures entries

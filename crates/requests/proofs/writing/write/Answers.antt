@@ -1,8 +1,7 @@
 use Rattle.message_parts.proofs.Appending.{and_then, if_then, object_written}
 use Rattle.requests.specs.Requests.{arguments_of}
-use Rattle.requests.proofs.writing.write.Goals as goal
 
-pub returns : goal.returns
+pub returns : Rattle.requests.proofs.writing.write.Goals.returns
 returns c =
     let name = rw c.name.ensures at c.in_ok-text.ensures in
     object_written c.end_object.result c.in_ok-begin_object.ensures

@@ -1,5 +1,2 @@
-use Rattle.message_parts.proofs.Appending.{member_if_written}
-use Rattle.requests.proofs.writing.write_member.Goals as goal
-
-pub returns : goal.returns
-returns c = member_if_written _ _ c.write_object.result c.in_ok-key.ensures c.write_object.ensures
+pub returns : Rattle.requests.proofs.writing.write_member.Goals.returns
+returns c = Rattle.message_parts.proofs.Appending.member_if_written _ _ c.write_object.result c.in_ok-key.ensures c.write_object.ensures

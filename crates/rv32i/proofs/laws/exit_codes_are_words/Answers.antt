@@ -1,5 +1,2 @@
-use Rattle.rv32i.proofs.Codes.{exit_codes_are_words as law}
-use Rattle.rv32i.proofs.laws.exit_codes_are_words.Goals as goal
-
-pub returns : goal.returns
-returns c = law
+pub returns : Rattle.rv32i.proofs.laws.exit_codes_are_words.Goals.returns
+returns c = Rattle.rv32i.proofs.Codes.exit_codes_are_words

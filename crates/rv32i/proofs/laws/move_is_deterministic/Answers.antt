@@ -1,5 +1,2 @@
-use Rattle.rv32i.proofs.OneMove.{one_move as law}
-use Rattle.rv32i.proofs.laws.move_is_deterministic.Goals as goal
-
-pub returns : goal.returns
-returns c = law
+pub returns : Rattle.rv32i.proofs.laws.move_is_deterministic.Goals.returns
+returns c = Rattle.rv32i.proofs.OneMove.one_move

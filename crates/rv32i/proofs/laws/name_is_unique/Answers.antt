@@ -1,5 +1,2 @@
-use Rattle.rv32i.proofs.Candidates.{one_register as law}
-use Rattle.rv32i.proofs.laws.name_is_unique.Goals as goal
-
-pub returns : goal.returns
-returns c = law
+pub returns : Rattle.rv32i.proofs.laws.name_is_unique.Goals.returns
+returns c = Rattle.rv32i.proofs.Candidates.one_register

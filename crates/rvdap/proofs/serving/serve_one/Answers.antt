@@ -3,9 +3,8 @@ use Rattle.session.specs.declared.event.Event.TheVariants.{Connect}
 use Rattle.session.specs.Sessions.{Effect}
 use Rattle.rvdap.specs.ExitReasons.{exit_reason_of}
 use Rattle.rvdap.proofs.Connecting.{connected}
-use Rattle.rvdap.proofs.serving.serve_one.Goals as goal
 
-pub returns : goal.returns
+pub returns : Rattle.rvdap.proofs.serving.serve_one.Goals.returns
 returns g c s st = record {
   end = c.drive_told-end.result;
   told = _;

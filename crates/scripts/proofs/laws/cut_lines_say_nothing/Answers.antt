@@ -1,5 +1,2 @@
-use Rattle.scripts.proofs.ReadBack.{cuts as law}
-use Rattle.scripts.proofs.laws.cut_lines_say_nothing.Goals as goal
-
-pub returns : goal.returns
-returns c = law
+pub returns : Rattle.scripts.proofs.laws.cut_lines_say_nothing.Goals.returns
+returns c = Rattle.scripts.proofs.ReadBack.cuts

@@ -1,5 +1,2 @@
-use Rattle.scripts.proofs.JoinedReadBack.{finishing as law}
-use Rattle.scripts.proofs.laws.ends_make_scripts.Goals as goal
-
-pub returns : goal.returns
-returns c = law
+pub returns : Rattle.scripts.proofs.laws.ends_make_scripts.Goals.returns
+returns c = Rattle.scripts.proofs.JoinedReadBack.finishing

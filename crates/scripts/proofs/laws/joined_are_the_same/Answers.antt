@@ -1,5 +1,2 @@
-use Rattle.scripts.proofs.Joins.{joined_same as law}
-use Rattle.scripts.proofs.laws.joined_are_the_same.Goals as goal
-
-pub returns : goal.returns
-returns c = law
+pub returns : Rattle.scripts.proofs.laws.joined_are_the_same.Goals.returns
+returns c = Rattle.scripts.proofs.Joins.joined_same

@@ -1,5 +1,2 @@
-use Rattle.scripts.proofs.ReadBack.{scripts as law}
-use Rattle.scripts.proofs.laws.last_lines_make_scripts.Goals as goal
-
-pub returns : goal.returns
-returns c = law
+pub returns : Rattle.scripts.proofs.laws.last_lines_make_scripts.Goals.returns
+returns c = Rattle.scripts.proofs.ReadBack.scripts

@@ -1,5 +1,2 @@
-use Rattle.scripts.proofs.CopyPaths.{paths as law}
-use Rattle.scripts.proofs.laws.paths_have_lines.Goals as goal
-
-pub returns : goal.returns
-returns c = law
+pub returns : Rattle.scripts.proofs.laws.paths_have_lines.Goals.returns
+returns c = Rattle.scripts.proofs.CopyPaths.paths

@@ -1,5 +1,2 @@
-use Rattle.scripts.proofs.Records.{turns as law}
-use Rattle.scripts.proofs.laws.turns_are_recorded.Goals as goal
-
-pub returns : goal.returns
-returns c = law
+pub returns : Rattle.scripts.proofs.laws.turns_are_recorded.Goals.returns
+returns c = Rattle.scripts.proofs.Records.turns

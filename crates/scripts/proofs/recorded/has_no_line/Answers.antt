@@ -1,8 +1,7 @@
 use Rattle.std.proofs.Common.{◌∙◌, ap}
 use Rattle.std.specs.Option.{is_none}
 use Rattle.scripts.proofs.Recording.{counted, none_of}
-use Rattle.scripts.proofs.recorded.has_no_line.Goals as goal
 
-pub returns : goal.returns
+pub returns : Rattle.scripts.proofs.recorded.has_no_line.Goals.returns
 returns c =
     none_of _ _ c.is_none.ensures ∙ ap is_none c.end_of_line.ensures ∙ counted c.args.text.now

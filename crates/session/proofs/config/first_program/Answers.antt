@@ -1,9 +1,8 @@
 use Rattle.std.proofs.Common.{◌≡◌, ℕ, List, Option, Some, None, Ok, sym, ap, subst}
 use Rattle.assembler.specs.Placed.{error_of}
 use Rattle.session.specs.Config.{Loads, given}
-use Rattle.session.proofs.config.first_program.Goals as goal
 
-pub returns-in_ok-program-in-Some : goal.returns-in_ok-program-in-Some
+pub returns-in_ok-program-in-Some : Rattle.session.proofs.config.first_program.Goals.returns-in_ok-program-in-Some
 returns-in_ok-program-in-Some c =
     let p = c.in_ok-program-in-Some.program in
     let size = c.args.size in

@@ -5,9 +5,8 @@ use Rattle.snapshots.specs.Shown.{frame_in}
 use Rattle.snapshots.specs.Snapshots.{frames_from}
 use Rattle.course.specs.Calls.{Kept}
 use Rattle.snapshots.proofs.Seeing.{one_more}
-use Rattle.snapshots.proofs.captured.frames.Goals as goal
 
-pub loop-index-preserved : goal.loop-index-preserved
+pub loop-index-preserved : Rattle.snapshots.proofs.captured.frames.Goals.loop-index-preserved
 loop-index-preserved c =
     let places : List ℕ = addresses c.args.machine.now in
     let calls : length c.calls.result.now.calls ≡ length c.args.machine.now.calls.calls = ap

@@ -1,8 +1,7 @@
 use Rattle.statements.proofs.Common.{ap, fields, fields_after, item_in, items_in, Ok, option_copied, refl, rules, trimmed, ◌∙◌, ◌≡◌}
 use Rattle.statements.proofs.Fields.{one_more}
-use Rattle.statements.proofs.directives.items_in.Goals as goal
 
-pub fields-preserved : goal.fields-preserved
+pub fields-preserved : Rattle.statements.proofs.directives.items_in.Goals.fields-preserved
 fields-preserved c =
     let field = c.first_field.result.0.now in
     let rest : fields_after 44 (option_copied c.fields.rest) ≡ fields 44 c.in-Some.fields.now = ap

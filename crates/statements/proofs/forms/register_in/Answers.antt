@@ -1,11 +1,11 @@
-use Rattle.statements.proofs.Common.{is_name, ap, Names, or_bad, Some, subst, sym, ◌∙◌, ◌≡◌}
-use Rattle.statements.proofs.Registers.{register_named, register_none, unnamed, named_text, named_is_name}
+use Rattle.statements.proofs.Common.{ap, cond-true, Names, None, or_bad, Some, subst, sym, ◌∙◌, ◌≡◌}
+use Rattle.statements.proofs.Registers.{named_is_name, named_text, register_named, register_none}
 use Rattle.statements.proofs.forms.register_in.Goals as goal
 
 pub returns-in_default : goal.returns-in_default
 returns-in_default c =
     sym (ap or_bad (register_none c.args.text.now
-    (λ n h. unnamed c.args.text.now c.in_default.ensures (named_is_name c.args.text.now n h))))
+    (λ n h. let some : None ≡ Some c.args.text.now = c.in_default.ensures ∙ cond-true _ _ _ (named_is_name c.args.text.now n h) in cc)))
 
 pub returns-in-Some-reg_of : goal.returns-in-Some-reg_of
 returns-in-Some-reg_of c =

@@ -1,5 +1,2 @@
-use Rattle.statements.proofs.DataLines.{directives_say}
-use Rattle.statements.proofs.laws.directives_state.Goals as goal
-
-pub returns : goal.returns
-returns c = directives_say
+pub returns : Rattle.statements.proofs.laws.directives_state.Goals.returns
+returns c = Rattle.statements.proofs.DataLines.directives_say

@@ -1,5 +1,2 @@
-use Rattle.statements.proofs.Dividing.{lines_read}
-use Rattle.statements.proofs.laws.lines_are_read.Goals as goal
-
-pub returns : goal.returns
-returns c = lines_read
+pub returns : Rattle.statements.proofs.laws.lines_are_read.Goals.returns
+returns c = Rattle.statements.proofs.Dividing.lines_read

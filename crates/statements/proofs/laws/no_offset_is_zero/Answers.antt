@@ -1,5 +1,2 @@
-use Rattle.statements.proofs.Addresses.{no_offset}
-use Rattle.statements.proofs.laws.no_offset_is_zero.Goals as goal
-
-pub returns : goal.returns
-returns c = no_offset
+pub returns : Rattle.statements.proofs.laws.no_offset_is_zero.Goals.returns
+returns c = Rattle.statements.proofs.Addresses.no_offset

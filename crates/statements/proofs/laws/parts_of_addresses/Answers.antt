@@ -1,5 +1,2 @@
-use Rattle.statements.proofs.Addresses.{address_parts}
-use Rattle.statements.proofs.laws.parts_of_addresses.Goals as goal
-
-pub returns : goal.returns
-returns c = address_parts
+pub returns : Rattle.statements.proofs.laws.parts_of_addresses.Goals.returns
+returns c = Rattle.statements.proofs.Addresses.address_parts

@@ -1,5 +1,2 @@
-use Rattle.statements.proofs.Refused.{no_registers}
-use Rattle.statements.proofs.laws.registers_are_needed.Goals as goal
-
-pub returns : goal.returns
-returns c = no_registers
+pub returns : Rattle.statements.proofs.laws.registers_are_needed.Goals.returns
+returns c = Rattle.statements.proofs.Refused.no_registers

@@ -1,5 +1,2 @@
-use Rattle.statements.proofs.Addresses.{registers_named}
-use Rattle.statements.proofs.laws.registers_have_names.Goals as goal
-
-pub returns : goal.returns
-returns c = registers_named
+pub returns : Rattle.statements.proofs.laws.registers_have_names.Goals.returns
+returns c = Rattle.statements.proofs.Addresses.registers_named

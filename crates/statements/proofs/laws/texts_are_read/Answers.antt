@@ -1,5 +1,2 @@
-use Rattle.statements.proofs.Texts.{texts_read}
-use Rattle.statements.proofs.laws.texts_are_read.Goals as goal
-
-pub returns : goal.returns
-returns c = texts_read
+pub returns : Rattle.statements.proofs.laws.texts_are_read.Goals.returns
+returns c = Rattle.statements.proofs.Texts.texts_read

@@ -1,6 +1,5 @@
 use Rattle.std.proofs.Common.{sym}
 use Rattle.statements.proofs.Registers.{name_is_utf8}
-use Rattle.statements.proofs.name.name_in.Goals as goal
 
-pub returns-in-Err : goal.returns-in-Err
+pub returns-in-Err : Rattle.statements.proofs.name.name_in.Goals.returns-in-Err
 returns-in-Err c = absurd (c.in-Err.ensures.cases.0 (name_is_utf8 _ (sym c.if-not-is_name.ensures)))

@@ -1,8 +1,7 @@
 use Rattle.std.specs.Option.{option_copied}
 use Rattle.statements.proofs.Fields.{copied_some, counted_more}
-use Rattle.statements.proofs.operands.counted.Goals as goal
 
-pub returns-then-is_some : goal.returns-then-is_some
+pub returns-then-is_some : Rattle.statements.proofs.operands.counted.Goals.returns-then-is_some
 returns-then-is_some c =
     counted_more c.args.text.now _ _ _ c.in-Some.text.now c.in-Some-after.text.now (option_copied c.first_field-3.result.1) c.requires
     (rw c.in-Some.is at c.first_field.ensures.fields)

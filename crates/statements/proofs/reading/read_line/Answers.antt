@@ -1,8 +1,7 @@
 use Rattle.statements.proofs.Common.{ap, fields, labels_of, OrNoMemory, rest_of, statement_in, subst, ◌∙◌}
 use Rattle.statements.proofs.Said.{read_so}
-use Rattle.statements.proofs.reading.read_line.Goals as goal
 
-pub returns-in-Ok : goal.returns-in-Ok
+pub returns-in-Ok : Rattle.statements.proofs.reading.read_line.Goals.returns-in-Ok
 returns-in-Ok c =
     let content = c.without_comment.ensures in
     read_so c.args.line.now c.in-Ok.labelled.labels c.in-Ok.labelled.rest.now c.statement_in-statement.result c.line_of.result

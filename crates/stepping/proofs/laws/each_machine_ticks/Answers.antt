@@ -1,5 +1,2 @@
-use Rattle.stepping.proofs.Existing.{the_tick as law}
-use Rattle.stepping.proofs.laws.each_machine_ticks.Goals as goal
-
-pub returns : goal.returns
-returns c = law
+pub returns : Rattle.stepping.proofs.laws.each_machine_ticks.Goals.returns
+returns c = Rattle.stepping.proofs.Existing.the_tick

@@ -1,5 +1,2 @@
-use Rattle.stepping.proofs.Advancing.{each_tick_answers as law}
-use Rattle.stepping.proofs.laws.each_tick_answers.Goals as goal
-
-pub returns : goal.returns
-returns c = law
+pub returns : Rattle.stepping.proofs.laws.each_tick_answers.Goals.returns
+returns c = Rattle.stepping.proofs.Advancing.each_tick_answers

@@ -1,5 +1,4 @@
 use Rattle.stepping.proofs.Remembering.{loaded_remembers, ticks_remember}
-use Rattle.stepping.proofs.laws.machines_remember_their_past.Goals as goal
 
-pub returns : goal.returns
+pub returns : Rattle.stepping.proofs.laws.machines_remember_their_past.Goals.returns
 returns c = record { loaded = loaded_remembers; ticks = ticks_remember }

@@ -1,9 +1,8 @@
 use Rattle.std.proofs.Common.{◌≤◌, slice_index_or, refl, arith}
 use Rattle.image.specs.Lines.{Row, line_in, start_of, words_in}
 use Rattle.testing.proofs.Rows.{rising-step}
-use Rattle.testing.proofs.line_tables.rise.Goals as goal
 
-pub loop-row-preserved : goal.loop-row-preserved
+pub loop-row-preserved : Rattle.testing.proofs.line_tables.rise.Goals.loop-row-preserved
 loop-row-preserved c =
     let index = c.loop-row.row-index in
     let row : Row = slice_index_or c.args.rows.now index (0, 0, 0) in

@@ -1,5 +1,2 @@
-use Rattle.transport.proofs.Calls.{messages_are_framed_in_order as proved}
-use Rattle.transport.proofs.laws.messages_are_framed_in_order.Goals as goal
-
-pub returns : goal.returns
-returns c = proved
+pub returns : Rattle.transport.proofs.laws.messages_are_framed_in_order.Goals.returns
+returns c = Rattle.transport.proofs.Calls.messages_are_framed_in_order

@@ -1,5 +1,2 @@
-use Rattle.variables.proofs.Calls.{numbers_rise as law}
-use Rattle.variables.proofs.laws.numbers_rise.Goals as goal
-
-pub returns : goal.returns
-returns c = law
+pub returns : Rattle.variables.proofs.laws.numbers_rise.Goals.returns
+returns c = Rattle.variables.proofs.Calls.numbers_rise

@@ -1,9 +1,8 @@
 use Rattle.watch_command.proofs.Common.{ap, begins_with_end, drop, length, length-drop, sym, take, ℕ, ◌-◌, ◌∙◌, ◌≡◌}
 use Rattle.std.proofs.Math.Seq.{take-length}
 use Rattle.watch_command.proofs.Leaving.{found_later}
-use Rattle.watch_command.proofs.fed.end_of.Goals as goal
 
-pub loop-index-preserved : goal.loop-index-preserved
+pub loop-index-preserved : Rattle.watch_command.proofs.fed.end_of.Goals.loop-index-preserved
 loop-index-preserved c =
     let bytes = c.args.bytes.now in
     let index = c.loop-index.index in

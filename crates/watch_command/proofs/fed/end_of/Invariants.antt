@@ -1,7 +1,6 @@
 use Rattle.watch_command.proofs.Common.{drop, end_of, ◌≡◌}
 use Rattle.watch_command.proofs.Leaving.{found_after}
-use Rattle.watch_command.proofs.fed.end_of.Given as goal
 
 -- none ended before
-abbrev pub invariant-loop-index : goal.invariant-loop-index
+abbrev pub invariant-loop-index : Rattle.watch_command.proofs.fed.end_of.Given.invariant-loop-index
 invariant-loop-index l = found_after l.index (end_of (drop l.index l.bytes)) ≡ end_of l.bytes

@@ -14,12 +14,13 @@ returns-in-Err g c =
     (g.W.Write.contents c.args.writer.now) c.in-Err.error
     (subst (λ (l : Limits). Begins c.args.config l (Err c.in-Err.error)) c.greatest.ensures c.in-Err.ensures))
 
-pub returns : goal.returns
-returns g c =
+pub returns-in-Ok : goal.returns-in-Ok
+returns-in-Ok g c =
     subst (λ (r : Result (Unit {0}) ReplayFault). Replays c.args.config c.args.asked c.args.steps.items (g.F.Files.past c.args.files.now)
-    (g.F.Files.past c.replay_in.new.files) (g.W.Write.contents c.args.writer.now) (g.W.Write.contents c.replay_in.new.writer) r)
+    (g.F.Files.past c.replay_in-written.new.files) (g.W.Write.contents c.args.writer.now) (g.W.Write.contents c.replay_in-written.new.writer) r)
     (sym c.answered.ensures)
     (replays c.args.asked c.args.steps.items (g.F.Files.past c.args.files.now)
-    (g.F.Files.past c.replay_in.new.files) (g.W.Write.contents c.args.writer.now)
-    (g.W.Write.contents c.replay_in.new.writer) c.args.config c.in-Ok.session
-    (subst (λ (l : Limits). HasBegun c.args.config l c.in-Ok.session) c.greatest.ensures c.in-Ok.ensures) c.replay_in.result c.replay_in.ensures)
+    (g.F.Files.past c.replay_in-written.new.files) (g.W.Write.contents c.args.writer.now)
+    (g.W.Write.contents c.replay_in-written.new.writer) c.args.config c.in-Ok.session
+    (subst (λ (l : Limits). HasBegun c.args.config l c.in-Ok.session) c.greatest.ensures c.in-Ok.ensures) c.replay_in-written.result
+    c.replay_in-written.ensures)

@@ -1,7 +1,6 @@
 use Rattle.watch_command.proofs.Showing.{replays_in}
-use Rattle.watch_command.proofs.replaying.replay_in.Goals as goal
 
-pub returns : goal.returns
+pub returns : Rattle.watch_command.proofs.replaying.replay_in.Goals.returns
 returns g c =
     replays_in c.args.asked c.args.steps.items (g.F.Files.past c.args.files.now)
     (g.F.Files.past c.events_of.new.files) (g.W.Write.contents c.args.writer.now)

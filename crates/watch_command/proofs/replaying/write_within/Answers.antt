@@ -1,8 +1,7 @@
 use Rattle.watch_command.proofs.Common.{HasPart, sym, ◌∙◌}
 use Rattle.watch_command.proofs.Showing.{part_written, was_asked}
-use Rattle.watch_command.proofs.replaying.write_within.Goals as goal
 
-pub returns-in-Err : goal.returns-in-Err
+pub returns-in-Err : Rattle.watch_command.proofs.replaying.write_within.Goals.returns-in-Err
 returns-in-Err g c =
     was_asked
     (HasPart (g.W.Write.contents c.args.writer.now)

@@ -1,8 +1,7 @@
 use Rattle.std.proofs.Common.{List, ℕ, length, drop, ap, sym, ◌∙◌}
 use Rattle.watch_command.proofs.Spoken.{does_one}
-use Rattle.watch_command.proofs.saying.add_said.Goals as goal
 
-pub returns-clause-does : goal.returns-clause-does
+pub returns-clause-does : Rattle.watch_command.proofs.saying.add_said.Goals.returns-clause-does
 returns-clause-does c =
     does_one c.args.asked c.args.number c.args.event.now c.args.session.now c.apply-answer.new.self c.args.stream.now c.add_came.new.self
     c.apply-answer.result c.link_fault.result c.piece_of.result.now c.after.result.now c.args.text.now.items c.add_came.new.text.items

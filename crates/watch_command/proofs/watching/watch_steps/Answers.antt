@@ -1,11 +1,10 @@
 use Rattle.watch_command.proofs.Common.{Err, Event, List, subst, WatchAnswers}
 use Rattle.watch_command.proofs.Failing.{unwatched}
-use Rattle.watch_command.proofs.watching.watch_steps.Goals as goal
 
-pub returns-in-Err-clause-err : goal.returns-in-Err-clause-err
-returns-in-Err-clause-err g c =
+pub returns-in-Err-found-clause-err : Rattle.watch_command.proofs.watching.watch_steps.Goals.returns-in-Err-found-clause-err
+returns-in-Err-found-clause-err g c =
     unwatched c.args.config c.args.steps.items c.args.watch (g.F.Files.past c.args.files.now)
     (g.F.Files.past c.events_of.new.files)
-    (g.W.Write.contents c.args.writer.now) c.in_ok-events.events.items c.in_ok-events.ensures c.in-Err.error
+    (g.W.Write.contents c.args.writer.now) c.in-Ok-events_of.events.items c.in-Ok-events_of.ensures c.in-Err-found.error
     (subst (λ (events : List Event). WatchAnswers c.args.config events c.args.watch
-    (Err c.in-Err.error)) c.deref.ensures.value c.in-Err.ensures)
+    (Err c.in-Err-found.error)) c.deref.ensures.value c.in-Err-found.ensures)

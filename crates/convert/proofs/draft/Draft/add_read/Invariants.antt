@@ -1,5 +1,4 @@
 use Rattle.std.proofs.Common.{◌≤◌, vec_len}
-use Rattle.convert.proofs.draft.Draft.add_read.Given as goal
 
-abbrev pub invariant-loop-label : goal.invariant-loop-label
+abbrev pub invariant-loop-label : Rattle.convert.proofs.draft.Draft.add_read.Given.invariant-loop-label
 invariant-loop-label l = vec_len l.initial.self.origins ≤ vec_len l.self.origins

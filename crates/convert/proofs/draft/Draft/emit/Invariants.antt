@@ -1,5 +1,4 @@
 use Rattle.std.proofs.Common.{◌≤◌, vec_len}
-use Rattle.convert.proofs.draft.Draft.emit.Given as goal
 
-abbrev pub invariant-loop-line : goal.invariant-loop-line
+abbrev pub invariant-loop-line : Rattle.convert.proofs.draft.Draft.emit.Given.invariant-loop-line
 invariant-loop-line l = vec_len l.initial.self.origins ≤ vec_len l.self.origins

@@ -1,5 +1,2 @@
-use Rattle.std.proofs.Common.{length}
-use Rattle.convert.proofs.values.Sum.read.Given as goal
-
-abbrev pub decreases-tokens : goal.decreases-tokens
-decreases-tokens l = length l.rest
+abbrev pub decreases-tokens : Rattle.convert.proofs.values.Sum.read.Given.decreases-tokens
+decreases-tokens l = Rattle.std.proofs.Common.length l.rest

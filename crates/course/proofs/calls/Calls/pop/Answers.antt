@@ -1,8 +1,7 @@
 use Rattle.course.proofs.Common.{ap, arith, Buffer, drop, Kept, popped, slice_get, unnoted, ℕ, ◌-◌, ◌∙◌, ◌≡◌, ◌≤◌}
 use Rattle.course.proofs.Calling.{pop_back}
-use Rattle.course.proofs.calls.Calls.pop.Goals as goal
 
-pub returns-clause-back : goal.returns-clause-back
+pub returns-clause-back : Rattle.course.proofs.calls.Calls.pop.Goals.returns-clause-back
 returns-clause-back c =
     let old = c.self.inside.addresses in
     let k : Kept = record { depth = c.self.inside.depth; calls = old.items } in

@@ -1,8 +1,7 @@
 use Rattle.course.proofs.Common.{ap, Course, length, moves_of, sym, ◌∙◌}
 use Rattle.course.proofs.Coursing.{length_past}
-use Rattle.course.proofs.course.Course.recorded.Goals as goal
 
-pub returns-clause-recorded : goal.returns-clause-recorded
+pub returns-clause-recorded : Rattle.course.proofs.course.Course.recorded.Goals.returns-clause-recorded
 returns-clause-recorded c =
     c.len.ensures.len
     ∙ sym (length_past (moves_of c.self.inside.log) c.self.inside.machine)

@@ -1,8 +1,7 @@
 use Rattle.course.proofs.Common.{AreKnown, arith, List, subst, sym, ℕ}
 use Rattle.course.proofs.Remembering.{known_write, written}
-use Rattle.course.proofs.machine.Machine.write.Goals as goal
 
-pub invariant_of-self : goal.invariant_of-self
+pub invariant_of-self : Rattle.course.proofs.machine.Machine.write.Goals.invariant_of-self
 invariant_of-self c =
     let m : List ℕ = c.self.inside.memory in
     let w = written 1 m c.args.addr c.args.bytes.now c.write.new.self c.in-Ok.ensures in

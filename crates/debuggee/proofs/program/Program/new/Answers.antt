@@ -2,9 +2,8 @@ use Rattle.debuggee.proofs.Common.{ap, Debugged, None, Program}
 use Rattle.debuggee.specs.declared.run.Run.TheVariants.{Stopped}
 use Rattle.debuggee.specs.declared.run.Why.TheVariants.{Entry}
 use Rattle.debuggee.proofs.Loading.{just_is}
-use Rattle.debuggee.proofs.program.Program.new.Goals as goal
 
-pub returns : goal.returns
+pub returns : Rattle.debuggee.proofs.program.Program.new.Goals.returns
 returns c =
     let with_machine : Debugged
     → Program = λ d. record {

@@ -1,8 +1,7 @@
 use Rattle.debuggee.proofs.Common.{ap, Debugged, Program, restarted, ◌∙◌}
 use Rattle.debuggee.proofs.Loading.{anew_is, on_ok}
-use Rattle.debuggee.proofs.program.Program.restart.Goals as goal
 
-pub returns-clause-ok : goal.returns-clause-ok
+pub returns-clause-ok : Rattle.debuggee.proofs.program.Program.restart.Goals.returns-clause-ok
 returns-clause-ok c =
     let p : Program = record {
       image = c.self.inside.image;

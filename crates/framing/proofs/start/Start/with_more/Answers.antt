@@ -1,6 +1,5 @@
-use Rattle.std.proofs.Common.{◌∙◌, sym}
-use Rattle.framing.proofs.Readings.{start_waits, start_stays}
-use Rattle.framing.proofs.Feeding.{known_is}
+use Rattle.framing.proofs.Common.{ap, inl, inr, sym, ◌∙◌}
+use Rattle.framing.proofs.Readings.{is_waiting, start_waits, start_stays}
 use Rattle.framing.proofs.start.Start.with_more.Goals as goal
 
 pub of-requires : goal.of-requires
@@ -8,4 +7,5 @@ of-requires c = start_waits c.args.limit c.args.bytes.now c.args.before c.requir
 
 pub returns-in-Breaks : goal.returns-in-Breaks
 returns-in-Breaks c =
-    start_stays c.args.limit c.args.bytes.now c.args.before c.args.self c.requires.started (known_is c.args.self c.in-Breaks.is)
+    start_stays c.args.limit c.args.bytes.now c.args.before c.args.self c.requires.started
+    (elim c.in-Breaks.is [ inl e ↦ ap is_waiting e.1 | inr e ↦ ap is_waiting e.2 ])

@@ -1,45 +1,22 @@
-use Rattle.framing.proofs.Common.{ap, drop, fault_of, Holds, IsSome, MarkHolds, Option, rules, subst, sym, take, Unframed, ◌∙◌, ◌≡◌, ◌≤◌}
+use Rattle.framing.proofs.Common.{ap, drop, Option, rules, sym, ◌∙◌}
 use Rattle.framing.specs.declared.state.Mark.{Mark}
-use Rattle.framing.proofs.Feeding.{broken_by}
-use Rattle.framing.proofs.Holding.{held_by, needed}
+use Rattle.framing.proofs.Holding.{held_by, Needed, needed}
 use Rattle.framing.proofs.state.State.keep_needed.Goals as goal
+use Rattle.framing.proofs.state.State.keep_needed.Goals.{After-shrink_to_fit}
+
+-- what is held, once what is needed for nothing is gone
+it : (c : After-shrink_to_fit) → Needed c.self.inside c.min-read.result c.max.result c.in-Some.mark c.shrink_to_fit.new.self.items
+it c =
+    rw (c.shrink_to_fit.ensures.items ∙ c.drop_bytes.ensures.items ∙ ap (drop c.min-read.result) c.truncate.ensures.items)
+    (needed c.self.inside c.min-read.result c.max.result c.in-Some.mark c.self.invariant.holds
+    (rw c.in-Some.is at c.self.invariant.mark_holds) (rw (← c.self.view_is) at c.requires)
+    (search rules) (search rules) (search rules) (search rules))
 
 pub invariant_of-self : goal.invariant_of-self
-invariant_of-self c =
-    let s = c.self.inside in
-    let m = c.in-Some.mark in
-    let read = c.min-read.result in
-    let kept = c.shrink_to_fit.new.self.items in
-    let before : Holds s.limit (take m.size s.bytes.items) m.place m.done m.first m.start =
-    subst (λ (o : Option Mark). MarkHolds s.limit s.bytes.items o) c.in-Some.is c.self.invariant.mark_holds in
-    let broken = broken_by s.start (drop s.done s.bytes.items)
-    (subst (λ (k : Unframed). IsSome (fault_of k.tail)) (sym c.self.view_is) c.requires) in
-    let read_place : read ≤ s.place = search rules in
-    let read_mark : read ≤ m.place = search rules in
-    let size_cut : m.size ≤ c.max.result = search rules in
-    let done_cut : s.done ≤ c.max.result = search rules in
-    let kept_is : kept ≡ drop read (take c.max.result s.bytes.items) =
-    c.shrink_to_fit.ensures.items ∙ c.drop_bytes.ensures.items ∙ ap (drop read) c.truncate.ensures.items in
-    let it = needed s.limit s.bytes.items kept s.place s.done read c.max.result s.first s.start m c.self.invariant.holds before broken
-    read_place read_mark size_cut done_cut kept_is in
-    record { holds = it.holds; mark_holds = it.marked }
+invariant_of-self c = (it (goal.at.invariant_of-self c).After-shrink_to_fit).fits
 
 pub returns : goal.returns
 returns c =
     let s = c.self.inside in
-    let m = c.in-Some.mark in
-    let read = c.min-read.result in
-    let kept = c.shrink_to_fit.new.self.items in
-    let before : Holds s.limit (take m.size s.bytes.items) m.place m.done m.first m.start =
-    subst (λ (o : Option Mark). MarkHolds s.limit s.bytes.items o) c.in-Some.is c.self.invariant.mark_holds in
-    let broken = broken_by s.start (drop s.done s.bytes.items)
-    (subst (λ (k : Unframed). IsSome (fault_of k.tail)) (sym c.self.view_is) c.requires) in
-    let read_place : read ≤ s.place = search rules in
-    let read_mark : read ≤ m.place = search rules in
-    let size_cut : m.size ≤ c.max.result = search rules in
-    let done_cut : s.done ≤ c.max.result = search rules in
-    let kept_is : kept ≡ drop read (take c.max.result s.bytes.items) =
-    c.shrink_to_fit.ensures.items ∙ c.drop_bytes.ensures.items ∙ ap (drop read) c.truncate.ensures.items in
-    let it = needed s.limit s.bytes.items kept s.place s.done read c.max.result s.first s.start m c.self.invariant.holds before broken
-    read_place read_mark size_cut done_cut kept_is in
-    it.same ∙ ap (λ (o : Option Mark). held_by s.limit s.bytes.items s.place s.done s.start o) (sym c.in-Some.is) ∙ c.self.view_is
+    (it (goal.at.returns c).After-shrink_to_fit).same
+    ∙ ap (λ (o : Option Mark). held_by s.limit s.bytes.items s.place s.done s.start o) (sym c.in-Some.is) ∙ c.self.view_is

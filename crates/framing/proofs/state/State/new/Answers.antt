@@ -1,32 +1,14 @@
-use Rattle.framing.proofs.Common.{[], ap, Breaks, List, NoMemory, None, Partial, Reading, rules, start_of, sym, Unframed, Waits, ℕ, ◌∙◌, ◌≡◌}
-use Rattle.framing.proofs.Readings.{starts_empty}
+use Rattle.framing.proofs.Common.{[], refl, sym, waiting_in}
+use Rattle.framing.proofs.Holding.{held, Stand, starts_known}
 use Rattle.framing.proofs.Passing.{nothing_read, nothing_whole}
+use Rattle.framing.proofs.Readings.{starts_empty}
 use Rattle.framing.proofs.state.State.new.Goals as goal
 
 pub invariant_of-result : goal.invariant_of-result
-invariant_of-result c = record {
-  holds = record {
-    place_within = search rules;
-    done_within = search rules;
-    whole = nothing_whole c.args.limit;
-    first_is = sym (starts_empty c.args.limit);
-    starts = record {
-      so = λ _. sym (ap (start_of c.args.limit) c.new.ensures.items ∙ starts_empty c.args.limit);
-      no_other = waits;
-    };
-  };
-  mark_holds = tt;
-} where
-  waits : Waits ≡ Breaks NoMemory → ⊥
-  waits e = cc
+invariant_of-result c =
+    let waits = sym (starts_empty c.args.limit) in
+    let s : Stand c.new.result.items 0 0 [] [] [] = record { spelled = c.new.ensures.items; place_is = refl; done_is = refl } in
+    record { holds = held s (nothing_whole c.args.limit) waits (starts_known waits); mark_holds = tt }
 
 pub returns : goal.returns
-returns c =
-    ap (λ (r : Reading). let k : Unframed = record {
-      limit = c.args.limit;
-      waiting = r.bodies;
-      tail = Partial c.new.result.items;
-      before = None;
-    } in k) (nothing_read c.args.limit)
-    ∙ ap (λ (l : List ℕ). let k : Unframed = record { limit = c.args.limit; waiting = []; tail = Partial l; before = None } in k)
-    c.new.ensures.items
+returns c = rw (c.new.ensures.items, nothing_read c.args.limit, waiting_in) refl

@@ -3,9 +3,8 @@ use Rattle.assembler.specs.Assembled.{assembled}
 use Rattle.debuggee.specs.Programs.{just_loaded}
 use Rattle.handlers.specs.Given.{Lent}
 use Rattle.handlers.proofs.Launching.{loads_so}
-use Rattle.handlers.proofs.requests.launch.loads.Goals as goal
 
-pub returns : goal.returns
+pub returns : Rattle.handlers.proofs.requests.launch.loads.Goals.returns
 returns c =
     let size : c.lent.inside.size ≡ c.args.lent.now.given.size = ap (λ (l : Lent). l.given.size) c.lent.view_is in
     let loaded = subst (λ (n : ℕ). c.in_ok-program.program ≡ just_loaded

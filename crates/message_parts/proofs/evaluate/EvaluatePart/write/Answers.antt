@@ -1,7 +1,6 @@
 use Rattle.message_parts.proofs.Appending.{object_written, and_then}
-use Rattle.message_parts.proofs.evaluate.EvaluatePart.write.Goals as goal
 
-pub returns : goal.returns
+pub returns : Rattle.message_parts.proofs.evaluate.EvaluatePart.write.Goals.returns
 returns c =
     object_written c.end_object.result c.in_ok-begin_object.ensures
     (and_then c.in_ok-address.ensures c.in_ok-number.ensures) c.end_object.ensures

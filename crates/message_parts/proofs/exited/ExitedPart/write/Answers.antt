@@ -2,9 +2,8 @@ use Rattle.message_parts.proofs.Common.{rules, to_z-of_z}
 use mir.Syntax.{w32}
 use mir.Val.{SFits}
 use Rattle.message_parts.proofs.Appending.{object_written}
-use Rattle.message_parts.proofs.exited.ExitedPart.write.Goals as goal
 
-pub returns : goal.returns
+pub returns : Rattle.message_parts.proofs.exited.ExitedPart.write.Goals.returns
 returns c =
     let fits : SFits w32 c.args.self.now.exit_code = search rules in
     let code = rw (to_z-of_z w32 c.args.self.now.exit_code fits) at c.in_ok-signed.ensures in

@@ -1,6 +1,5 @@
 use Rattle.message_parts.proofs.Appending.{object_written}
-use Rattle.message_parts.proofs.scopes.ScopesPart.write.Goals as goal
 
-pub returns : goal.returns
+pub returns : Rattle.message_parts.proofs.scopes.ScopesPart.write.Goals.returns
 returns c =
     object_written c.end_object.result c.in_ok-begin_object.ensures c.in_ok-part.ensures c.end_object.ensures

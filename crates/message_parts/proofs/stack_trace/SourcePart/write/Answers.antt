@@ -1,7 +1,6 @@
 use Rattle.message_parts.proofs.Appending.{object_written, and_then}
-use Rattle.message_parts.proofs.stack_trace.SourcePart.write.Goals as goal
 
-pub returns : goal.returns
+pub returns : Rattle.message_parts.proofs.stack_trace.SourcePart.write.Goals.returns
 returns c =
     let text0 = rw c.as_str.ensures at c.in_ok-text.ensures in
     let text1 = rw c.as_str-2.ensures at c.in_ok-text-2.ensures in

@@ -1,7 +1,6 @@
 use Rattle.message_parts.proofs.Appending.{object_written, and_then}
-use Rattle.message_parts.proofs.variables.VariablePart.write.Goals as goal
 
-pub returns : goal.returns
+pub returns : Rattle.message_parts.proofs.variables.VariablePart.write.Goals.returns
 returns c =
     let text = rw c.as_str.ensures at c.in_ok-text.ensures in
     object_written c.end_object.result c.in_ok-begin_object.ensures

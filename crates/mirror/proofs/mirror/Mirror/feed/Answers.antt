@@ -1,5 +1,2 @@
-use Rattle.mirror.proofs.Streaming.{feeds_past}
-use Rattle.mirror.proofs.mirror.Mirror.feed.Goals as goal
-
-pub returns-clause-past : goal.returns-clause-past
-returns-clause-past c = feeds_past c.args.self.now _ c.args.piece.now _ c.take.ensures.kept
+pub returns-clause-past : Rattle.mirror.proofs.mirror.Mirror.feed.Goals.returns-clause-past
+returns-clause-past c = Rattle.mirror.proofs.Streaming.feeds_past c.args.self.now _ c.args.piece.now _ c.take.ensures.kept

@@ -1,5 +1,2 @@
-use Rattle.mirror.proofs.Maps.{nothing_in}
-use Rattle.mirror.proofs.registers.Registers.new.Goals as goal
-
-pub returns : goal.returns
-returns c = nothing_in 33
+pub returns : Rattle.mirror.proofs.registers.Registers.new.Goals.returns
+returns c = Rattle.mirror.proofs.Maps.nothing_in 33

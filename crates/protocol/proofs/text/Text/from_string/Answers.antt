@@ -1,5 +1,2 @@
-use Rattle.std.proofs.lemmas.Str.{IsUtf8-string_bytes}
-use Rattle.protocol.proofs.text.Text.from_string.Goals as goal
-
-pub returns-clause-utf8 : goal.returns-clause-utf8
-returns-clause-utf8 c = IsUtf8-string_bytes c.args.string
+pub returns-clause-utf8 : Rattle.protocol.proofs.text.Text.from_string.Goals.returns-clause-utf8
+returns-clause-utf8 c = Rattle.std.proofs.lemmas.Str.IsUtf8-string_bytes c.args.string

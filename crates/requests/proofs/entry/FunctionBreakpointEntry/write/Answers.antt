@@ -1,7 +1,6 @@
 use Rattle.message_parts.proofs.Appending.{if_then, object_written}
-use Rattle.requests.proofs.entry.FunctionBreakpointEntry.write.Goals as goal
 
-pub returns : goal.returns
+pub returns : Rattle.requests.proofs.entry.FunctionBreakpointEntry.write.Goals.returns
 returns c =
     object_written c.end_object.result c.in_ok-begin_object.ensures
     (if_then _ _ c.args.self.now.condition c.in_ok-part_if.ensures

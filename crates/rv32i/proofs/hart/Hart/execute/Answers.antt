@@ -1,8 +1,7 @@
 use Rattle.rv32i.proofs.Common.{IsDecodedAtPc, machine_of, subst}
 use Rattle.rv32i.proofs.Moves.{carried}
-use Rattle.rv32i.proofs.hart.Hart.execute.Goals as goal
 
-pub returns-in-Some : goal.returns-in-Some
+pub returns-in-Some : Rattle.rv32i.proofs.hart.Hart.execute.Goals.returns-in-Some
 returns-in-Some c =
     let before = machine_of c.args.self.now c.args.memory.now in
     let all = carried before c.in-Some.instr _ _ (subst (IsDecodedAtPc before) c.in-Some.is c.requires) c.carry_out.ensures in

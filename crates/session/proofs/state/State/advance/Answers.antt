@@ -2,9 +2,8 @@ use Rattle.session.proofs.Common.{ap, arith, Debugged, Kept, Some, sym, ◌∙�
 use Rattle.stepping.specs.Goals.{turns_back}
 use Rattle.session.proofs.Advancing.{HasLeft, advances_so, the_free_one}
 use Rattle.session.proofs.Told.{with_one}
-use Rattle.session.proofs.state.State.advance.Goals as goal
 
-pub returns : goal.returns
+pub returns : Rattle.session.proofs.state.State.advance.Goals.returns
 returns c =
     let k : Kept = c.args.self.now in
     let p = c.in-Some.program in

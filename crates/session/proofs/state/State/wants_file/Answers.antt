@@ -1,9 +1,8 @@
 use Rattle.session.proofs.Common.{ap, first_pending, Kept, run_of, sym, ◌∙◌}
 use Rattle.std.specs.Option.{option_copied}
 use Rattle.session.proofs.Wanting.{wants_first}
-use Rattle.session.proofs.state.State.wants_file.Goals as goal
 
-pub returns-in-Some-first : goal.returns-in-Some-first
+pub returns-in-Some-first : Rattle.session.proofs.state.State.wants_file.Goals.returns-in-Some-first
 returns-in-Some-first c =
     let k : Kept = c.args.self.now in
     let link = sym (ap (λ (x : Kept). x.now.link) c.self.view_is) ∙ c.in-Some.is in

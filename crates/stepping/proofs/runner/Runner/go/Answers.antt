@@ -1,5 +1,5 @@
-use Rattle.stepping.proofs.Common.{ap, arith, Option, RunEnd, Stretches, subst, turns_back, ◌-◌, ◌∙◌}
-use Rattle.stepping.proofs.Going.{all_went, ends_run, goes_goal, goes_on, goes_retire, run_retires}
+use Rattle.stepping.proofs.Common.{ap, arith, turns_back, ◌∙◌}
+use Rattle.stepping.proofs.Going.{all_went, ends_run, goes_goal, goes_join, goes_retire, run_retires}
 use Rattle.stepping.proofs.runner.Runner.go.Goals as goal
 
 pub stretch-stretch-requires-clause-few : goal.stretch-stretch-requires-clause-few
@@ -12,21 +12,16 @@ stretch-stretch-requires-clause-forward c =
 
 pub returns-in-Some : goal.returns-in-Some
 returns-in-Some c =
-    let s = subst (λ (e : Option RunEnd). Stretches
-    (c.args.most - c.loop-went.went) c.loop-went.self c.stretch-stretch.result.went e c.stretch-stretch.new.self)
-    c.in-Some.is c.stretch-stretch.ensures in
-    let run = ends_run c.args.most c.loop-went.went c.stretch-stretch.result.went c.args.self.now c.loop-went.self c.stretch-stretch.new.self c.in-Some.ending
-    c.loop-went.invariant.few c.loop-went.invariant.goes s in
+    let run = ends_run c.args.most c.loop-went.went c.stretch-stretch.result.went c.args.self.now c.loop-went.self c.stretch-stretch.new.self
+    c.in-Some.ending c.loop-went.invariant.few c.loop-went.invariant.goes (rw c.in-Some.is at c.stretch-stretch.ensures) in
     record { run = run; retired = run_retires c.args.most c.args.self.now _ c.stretch-stretch.new.self run }
 
 pub loop-went-preserved : goal.loop-went-preserved
 loop-went-preserved c =
-    let s = subst (λ (e : Option RunEnd). Stretches
-    (c.args.most - c.loop-went.went) c.loop-went.self c.stretch-stretch.result.went e c.stretch-stretch.new.self)
-    c.in_default.is c.stretch-stretch.ensures in
-    let more = goes_on c.args.most c.loop-went.went c.stretch-stretch.result.went c.args.self.now c.loop-went.self c.stretch-stretch.new.self
-    c.loop-went.invariant.few c.loop-went.invariant.goes s in
-    record { goes = more.0; few = more.1 }
+    let s = rw c.in_default.is at c.stretch-stretch.ensures in record {
+      goes = goes_join _ _ c.args.self.now c.loop-went.self c.stretch-stretch.new.self c.loop-went.invariant.goes s.1.1;
+      few = omega (arith, c.loop-went.invariant.few, s.1.0);
+    }
 
 pub returns : goal.returns
 returns c =

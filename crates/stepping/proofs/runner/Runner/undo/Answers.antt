@@ -1,27 +1,18 @@
-use Rattle.stepping.proofs.Common.{AreCounted, arith, Course, Debugged, length, subst, sym, UndoNeedsPage, ◌-◌, ◌<◌, ◌≡◌}
+use Rattle.stepping.proofs.Common.{arith, Debugged, length, subst, UndoNeedsPage, ◌<◌}
 use Rattle.course.proofs.Making.{on_err}
-use Rattle.course.specs.Positions.{gone_back}
-use Rattle.stepping.proofs.Counting.{some_retired, undone_counts}
+use Rattle.stepping.proofs.Counting.{still_sound, undone_counts}
 use Rattle.stepping.proofs.runner.Runner.undo.Goals as goal
 
 pub overflow_sub-self : goal.overflow_sub-self
 overflow_sub-self c =
     let some : 0 < length c.self.inside.course.past = omega (arith, c.recorded-undoes.ensures.recorded, c.if-undoes.true) in
-    omega (arith, some_retired c.self.inside.course c.self.inside.retired c.self.invariant.called some)
+    omega (arith, (undone_counts c.self.inside.course c.self.inside.retired c.self.invariant.called some).0)
 
 pub invariant_of-self-then-undoes : goal.invariant_of-self-then-undoes
 invariant_of-self-then-undoes c =
     let some : 0 < length c.self.inside.course.past = omega (arith, c.recorded-undoes.ensures.recorded, c.if-undoes.true) in
-    let there : c.go_back.new.self ≡ gone_back c.self.inside.course = c.in_ok-go_back.ensures.ok in
-    record {
-      whole = c.self.invariant.whole;
-      some = c.self.invariant.some;
-      few = c.self.invariant.few;
-      called =
-          subst (λ (x : Course). AreCounted x (c.self.inside.retired - 1)) (sym there)
-          (undone_counts c.self.inside.course c.self.inside.retired c.self.invariant.called some);
-      unmet = c.self.invariant.unmet;
-    }
+    still_sound c.self.invariant (rw c.in_ok-go_back.ensures.ok
+    (undone_counts c.self.inside.course c.self.inside.retired c.self.invariant.called some).1)
 
 pub returns-in_err-go_back-clause-lacks : goal.returns-in_err-go_back-clause-lacks
 returns-in_err-go_back-clause-lacks c =

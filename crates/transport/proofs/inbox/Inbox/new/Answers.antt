@@ -1,5 +1,2 @@
-use Rattle.transport.proofs.ServerLemmas.{begins_reading}
-use Rattle.transport.proofs.inbox.Inbox.new.Goals as goal
-
-pub returns : goal.returns
-returns c = begins_reading _ c.new.ensures.kept
+pub returns : Rattle.transport.proofs.inbox.Inbox.new.Goals.returns
+returns c = Rattle.transport.proofs.ServerLemmas.begins_reading _ c.new.ensures.kept

@@ -1,8 +1,7 @@
 use Rattle.std.proofs.Common.{ap, length, rules}
 use Rattle.watch_events.proofs.Tracked.{steps_inside}
-use Rattle.watch_events.proofs.track.Track.step.Goals as goal
 
-pub returns-in_ok-note-in_default : goal.returns-in_ok-note-in_default
+pub returns-in_ok-note-in_default : Rattle.watch_events.proofs.track.Track.step.Goals.returns-in_ok-note-in_default
 returns-in_ok-note-in_default c = record {
   keeps =
       steps_inside _ _ c.self.view_is c.slice-sliced.new.self c.args.moves c.slice-sliced.result c.note.new.self _
