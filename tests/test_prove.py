@@ -145,11 +145,11 @@ def two_side_by_side():
         expect([word for word, _ in between], ["begin", "begin", "end", "end"], "b and c, between a and d")
 
 
-def a_crate_that_is_alone_gets_all_processors():
+def the_crate_that_holds_up_most_gets_all_processors():
     with repository() as top:
         proved(top)
         said = text_of(top, "../notes.jobs").split()
-        expect(dict(zip(said[::2], said[1::2])), {"a": "2", "b": "1", "c": "1", "d": "2", "rvdap": "2"}, "the jobs of each")
+        expect(dict(zip(said[::2], said[1::2])), {"a": "2", "b": "2", "c": "1", "d": "2", "rvdap": "2"}, "the jobs of each")
 
 
 def a_line_for_each_crate_and_a_log():
@@ -305,7 +305,7 @@ def the_program_stands_on_its_crates():
 
 def checks():
     return [("tools/prove: " + check.__name__.replace("_", " "), check) for check in (
-        each_crate_after_those_below_it, two_side_by_side, a_crate_that_is_alone_gets_all_processors, a_line_for_each_crate_and_a_log,
+        each_crate_after_those_below_it, two_side_by_side, the_crate_that_holds_up_most_gets_all_processors, a_line_for_each_crate_and_a_log,
         a_crate_of_which_nothing_is_said_is_unchanged, a_line_that_moves_on_a_terminal, a_failure_shows_its_last_lines,
         what_is_proved_stays_so, an_interrupt_leaves_what_is_proved, one_at_a_time_in_a_checkout,
         as_many_as_the_machine_has_room_for, a_word_that_is_none_is_refused, another_kit_is_told, the_documents_name_one_kit,

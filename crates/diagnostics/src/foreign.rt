@@ -1,8 +1,65 @@
 //! Mnemonics and directives that other assemblers have, and what to write in their place.
 
+use crate::forms::has;
 use crate::literals::{negated, string_bytes_of};
 use crate::operands::{operand_at, operand_text};
 use std::alloc::{AllocError, Global};
+
+// Directives that say nothing to this assembler.
+const NEEDLESS: [&str; 11] = [
+    ".type",
+    ".size",
+    ".file",
+    ".option",
+    ".attribute",
+    ".ident",
+    ".local",
+    ".weak",
+    ".extern",
+    ".loc",
+    ".end",
+];
+
+// Directives of macros.
+const OF_MACROS: [&str; 10] = [
+    ".macro",
+    ".endm",
+    ".end_macro",
+    ".include",
+    ".irp",
+    ".rept",
+    ".endr",
+    ".if",
+    ".else",
+    ".endif",
+];
+
+// What RV32I lacks: multiplication, floating-point numbers, and counters by their names.
+const OF_AN_EXTENSION: [&str; 17] = [
+    "mul",
+    "mulh",
+    "mulhu",
+    "mulhsu",
+    "div",
+    "divu",
+    "rem",
+    "remu",
+    "flw",
+    "fsw",
+    "fld",
+    "fsd",
+    "rdcycle",
+    "rdtime",
+    "rdinstret",
+    ".float",
+    ".double",
+];
+
+// What RV64I has.
+const OF_64_BITS: [&str; 16] = [
+    "ld", "sd", "lwu", "addiw", "addw", "subw", "mulw", "sllw", "srlw", "sraw", "slliw", "srliw",
+    "sraiw", ".dword", ".quad", ".8byte",
+];
 
 /// What is told of a mnemonic or directive that others have. `Ok(None)`: nothing is known of it. `Err`: no memory was left.
 pub(crate) fn foreign_words(
@@ -30,12 +87,12 @@ fn told_by_kind(alloc: Global, name: &str) -> Result<Option<String>, AllocError>
     if is_naming(name) {
         return Ok(Some(format!(in alloc; "{name}: numbers have no names here; write the number")?));
     }
-    if is_macro(name) {
+    if has(&OF_MACROS, name) {
         return Ok(Some(format!(in alloc;
             "{name}: there are no macros here; write out its lines"
         )?));
     }
-    if is_of_an_extension(name) || is_of_64_bits(name) || is_privileged(name) {
+    if is_of_an_extension(name) || has(&OF_64_BITS, name) || is_privileged(name) {
         return Ok(Some(format!(in alloc; "RV32I has no {name}")?));
     }
     Ok(None)
@@ -69,32 +126,15 @@ fn mnemonic_instead(name: &str) -> Option<&'static str> {
 }
 
 fn is_needless(name: &str) -> bool {
-    match name {
-        ".type" | ".size" | ".file" | ".option" | ".attribute" | ".ident" => true,
-        ".local" | ".weak" | ".extern" | ".loc" | ".end" => true,
-        _ => name.starts_with(".cfi_"),
-    }
+    has(&NEEDLESS, name) || name.starts_with(".cfi_")
 }
 
 fn is_naming(name: &str) -> bool {
     matches!(name, ".equ" | ".eqv" | ".set" | ".equiv")
 }
 
-fn is_macro(name: &str) -> bool {
-    match name {
-        ".macro" | ".endm" | ".end_macro" | ".include" | ".irp" => true,
-        ".rept" | ".endr" | ".if" | ".else" | ".endif" => true,
-        _ => false,
-    }
-}
-
 fn is_of_an_extension(name: &str) -> bool {
-    match name {
-        "mul" | "mulh" | "mulhu" | "mulhsu" | "div" | "divu" | "rem" | "remu" => true,
-        "flw" | "fsw" | "fld" | "fsd" | "rdcycle" | "rdtime" | "rdinstret" => true,
-        ".float" | ".double" => true,
-        _ => has_prefix_of_an_extension(name),
-    }
+    has(&OF_AN_EXTENSION, name) || has_prefix_of_an_extension(name)
 }
 
 fn has_prefix_of_an_extension(name: &str) -> bool {
@@ -106,15 +146,6 @@ fn has_prefix_of_an_extension(name: &str) -> bool {
                 || name.starts_with("amo")
                 || name.starts_with("lr.")
                 || name.starts_with("sc."))
-}
-
-fn is_of_64_bits(name: &str) -> bool {
-    match name {
-        "ld" | "sd" | "lwu" | "addiw" | "addw" | "subw" | "mulw" => true,
-        "sllw" | "srlw" | "sraw" | "slliw" | "srliw" | "sraiw" => true,
-        ".dword" | ".quad" | ".8byte" => true,
-        _ => false,
-    }
 }
 
 fn is_privileged(name: &str) -> bool {

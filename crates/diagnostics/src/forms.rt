@@ -3,7 +3,7 @@
 use crate::kinds::Kind;
 
 /// What a mnemonic takes.
-#[derive(Clone, Copy, Debug, PartialEq, Eq)]
+#[derive(Clone, Copy, PartialEq, Eq)]
 pub(crate) enum Form {
     /// `rd, rs1, rs2`.
     Registers,
@@ -248,7 +248,8 @@ pub(crate) fn form_of(name: &str) -> Option<Form> {
     None
 }
 
-fn has(names: &[&str], name: &str) -> bool {
+/// Whether a name is one of these.
+pub(crate) fn has(names: &[&str], name: &str) -> bool {
     for known in names {
         if *known == name {
             return true;

@@ -61,8 +61,17 @@ fn rank_of(edits: usize, takes: bool) -> usize {
 /// Whether a mnemonic takes these operands. `Err`: no memory was left.
 pub(crate) fn takes(alloc: Global, mnemonic: &str, operands: &str) -> Result<bool, AllocError> {
     let line = format!(in alloc; "{mnemonic} {operands}")?;
-    match read_line(alloc, line.as_bytes()) {
-        Ok(_) => Ok(true),
+    let can = can_be_read(alloc, line.as_bytes());
+    drop(line);
+    can
+}
+
+fn can_be_read(alloc: Global, line: &[u8]) -> Result<bool, AllocError> {
+    match read_line(alloc, line) {
+        Ok(read) => {
+            drop(read);
+            Ok(true)
+        }
         Err(LineError::NoMemory) => Err(AllocError),
         Err(_) => Ok(false),
     }

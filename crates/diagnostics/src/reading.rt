@@ -14,7 +14,7 @@ use statements::{Line, LineError, read_line};
 use std::alloc::{AllocError, Global};
 
 /// A line that says something.
-#[derive(Debug, Drop)]
+#[derive(Drop)]
 pub(crate) struct ReadLine<'a> {
     /// Its number, from 1 on.
     pub number: u32,
@@ -64,6 +64,7 @@ fn keep<'a>(program: &mut Vec<ReadLine<'a>>, number: u32, line: Line<'a>) -> Res
         ≡ program_of program.old.items ++ kept number line.entry []) }
 {
     if line.labels.as_slice().is_empty() && line.statement.is_none() {
+        drop(line);
         return Ok(());
     }
     program.push(ReadLine { number, line })?;
@@ -91,7 +92,10 @@ fn unread(alloc: Global, number: u32, text: &str) -> Result<Option<AsmError>, Al
     ensures { IfOk result (λ error. error ≡ spec.unread number (read text.now)) }
 {
     match read_line(alloc, text.as_bytes()) {
-        Ok(_) => Ok(None),
+        Ok(line) => {
+            drop(line);
+            Ok(None)
+        }
         Err(LineError::Syntax) => Ok(Some(at(number, AsmErrorKind::Syntax))),
         Err(LineError::UnknownInstruction) => Ok(Some(at(
             number,

@@ -1,5 +1,3 @@
--- a command that is told of another
-mod Adding
 -- what a text asks for
 mod Asking
 -- what holds of options, whatever the words

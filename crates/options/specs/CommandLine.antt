@@ -78,26 +78,10 @@ abbrev pub replay : App
 replay = with_rule replay_of_a_part (file (codes "SCRIPT"))
 
 -- the whole, command by command
-abbrev pub with_asm : App
-with_asm = with_subcommand with_options (with_file (codes "asm") (codes "FILE")).top
-
-abbrev pub with_watch : App
-with_watch = with_subcommand with_asm watch.top
-
-abbrev pub with_run : App
-with_run = with_subcommand with_watch run.top
-
-abbrev pub with_check : App
-with_check = with_subcommand with_run check.top
-
-abbrev pub with_labels : App
-with_labels = with_subcommand with_check labels.top
-
-abbrev pub with_convert : App
-with_convert = with_subcommand with_labels (with_file (codes "convert") (codes "FILE")).top
-
 unfoldable pub command_line : App
-command_line = with_subcommand with_convert replay.top
+command_line = with_subcommand (with_subcommand (with_subcommand (with_subcommand (with_subcommand (with_subcommand (with_subcommand with_options
+    (with_file (codes "asm") (codes "FILE")).top) watch.top) run.top) check.top) labels.top) (with_file (codes "convert") (codes "FILE")).top)
+    replay.top
 
 -- clap's definitions say exactly what it makes of words
 pub is_exact : is_simple_and_free command_line ≡ true

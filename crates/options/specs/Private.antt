@@ -2,3 +2,5 @@
 
 -- which rule is broken
 pub mod Broken
+-- a command as clap is told of it
+pub mod Told

@@ -1,8 +1,8 @@
 //! The command line as clap is told of it, with what help says.
 ghost use Rattle.std.specs.Prelude.{◌≡◌, IfOk, codes, false};
-ghost use Rattle.clap.specs.Words.{app_of, new_app, rule_of};
-ghost use Rattle.clap.specs.declared.builder.command.Command.TheViews.{out-Command as fields_of};
+ghost use Rattle.clap.specs.Words.{App, Rule, new_app, rule_of, with_rule, with_subcommand};
 ghost use Rattle.options.specs.CommandLine as spec;
+ghost use Rattle.options.specs.Private.Told.{IsTold};
 
 use clap::{Arg, ArgAction, Command};
 use std::alloc::{AllocError, Global};
@@ -149,80 +149,77 @@ const AFTER_HELP_OF_CONVERT: &str = "\
     \n\
     \nStatus: 0, or 1 where something cannot be said, or FILE cannot be read.";
 
-/// The command line as clap is told of it. A command is made before the one that it is added to, and each in a function of its own: what is
-/// alive where memory may run out has to be dropped there.
+/// The command line as clap is told of it.
 pub(crate) fn command<'a>(alloc: Global) -> Result<Command<'a>, AllocError>
-    ensures { IfOk result (λ c. app_of c ≡ spec.command_line) }
+    ensures { IfOk result (IsTold spec.command_line) }
 {
-    let replay = replay(alloc)?;
-    with_convert(alloc)?.subcommand(replay)
+    let command = with_options(alloc);
+    let command = added(command, asm(alloc));
+    let command = added(command, watch(alloc));
+    let command = added(command, run(alloc));
+    let command = added(command, check(alloc));
+    let command = added(command, labels(alloc));
+    let command = added(command, convert(alloc));
+    added(command, replay(alloc))
 }
 
-// Told of its commands up to `convert`.
-fn with_convert<'a>(alloc: Global) -> Result<Command<'a>, AllocError>
-    ensures { IfOk result (λ c. app_of c ≡ spec.with_convert) }
+// A command that is told of another. What was made before memory ran out is dropped here, and in `told`.
+fn added<'a>(
+    above: Result<Command<'a>, AllocError>,
+    below: Result<Command<'a>, AllocError>,
+) -> Result<Command<'a>, AllocError>
+    ensures { (app sub : App) → IfOk above.entry (IsTold app) → IfOk below.entry (IsTold sub)
+        → IfOk result (IsTold (with_subcommand app sub.top)) }
 {
-    let convert = convert(alloc)?;
-    with_labels(alloc)?.subcommand(convert)
+    match below {
+        Ok(below) => match above {
+            Ok(above) => above.subcommand(below),
+            Err(error) => {
+                drop(below);
+                Err(error)
+            }
+        },
+        Err(error) => {
+            drop(above);
+            Err(error)
+        }
+    }
 }
 
-// Told of its commands up to `labels`.
-fn with_labels<'a>(alloc: Global) -> Result<Command<'a>, AllocError>
-    ensures { IfOk result (λ c. app_of c ≡ spec.with_labels) }
+// A command that is told of an option, or of a word.
+fn told<'a>(
+    command: Result<Command<'a>, AllocError>,
+    arg: Arg<'a>,
+) -> Result<Command<'a>, AllocError>
+    requires { arg.global ≡ false }
+    ensures { (app : App) (rule : Rule) → IfOk command.entry (IsTold app)
+        → rule_of arg.entry ≡ rule → IfOk result (IsTold (with_rule app rule)) }
 {
-    let labels = labels(alloc)?;
-    with_check(alloc)?.subcommand(labels)
-}
-
-// Told of its commands up to `check`.
-fn with_check<'a>(alloc: Global) -> Result<Command<'a>, AllocError>
-    ensures { IfOk result (λ c. app_of c ≡ spec.with_check) }
-{
-    let check = check(alloc)?;
-    with_run(alloc)?.subcommand(check)
-}
-
-// Told of its commands up to `run`.
-fn with_run<'a>(alloc: Global) -> Result<Command<'a>, AllocError>
-    ensures { IfOk result (λ c. app_of c ≡ spec.with_run) }
-{
-    let run = run(alloc)?;
-    with_watch(alloc)?.subcommand(run)
-}
-
-// Told of its commands up to `watch`.
-fn with_watch<'a>(alloc: Global) -> Result<Command<'a>, AllocError>
-    ensures { IfOk result (λ c. app_of c ≡ spec.with_watch) }
-{
-    let watch = watch(alloc)?;
-    with_asm(alloc)?.subcommand(watch)
-}
-
-// Told of its first command.
-fn with_asm<'a>(alloc: Global) -> Result<Command<'a>, AllocError>
-    ensures { IfOk result (λ c. app_of c ≡ spec.with_asm) }
-{
-    let asm = asm(alloc)?;
-    with_options(alloc)?.subcommand(asm)
+    match command {
+        Ok(command) => command.arg(arg),
+        Err(error) => {
+            drop(arg);
+            Err(error)
+        }
+    }
 }
 
 // Told of its options.
 fn with_options<'a>(alloc: Global) -> Result<Command<'a>, AllocError>
-    ensures { IfOk result (λ c. app_of c ≡ spec.with_options) }
+    ensures { IfOk result (IsTold spec.with_options) }
 {
-    plain(alloc)
-        .arg(memory(alloc))?
-        .arg(listen(alloc))?
-        .arg(program(alloc))?
-        .arg(once(alloc))?
-        .arg(verbose(alloc))?
-        .arg(record(alloc))
+    let command = Ok(plain(alloc));
+    let command = told(command, memory(alloc));
+    let command = told(command, listen(alloc));
+    let command = told(command, program(alloc));
+    let command = told(command, once(alloc));
+    let command = told(command, verbose(alloc));
+    told(command, record(alloc))
 }
 
 // The command, before it is told of options.
 fn plain<'a>(alloc: Global) -> Command<'a>
-    ensures app { app_of result ≡ spec.plain }
-    ensures local { (fields_of result).has_globals ≡ false }
+    ensures { IsTold spec.plain result }
 {
     Command::new(alloc, "rvdap")
         .version("0.1.0")
@@ -253,8 +250,7 @@ fn described<'a>(
     usage: &'a str,
     after_help: &'a str,
 ) -> Command<'a>
-    ensures app { app_of result ≡ new_app name.entry.now }
-    ensures local { (fields_of result).has_globals ≡ false }
+    ensures { IsTold (new_app name.entry.now) result }
 {
     Command::new(alloc, name)
         .about(about)
@@ -333,71 +329,68 @@ fn record<'a>(alloc: Global) -> Arg<'a>
 }
 
 fn asm<'a>(alloc: Global) -> Result<Command<'a>, AllocError>
-    ensures { IfOk result (λ c. (app_of c ≡ spec.with_file (codes "asm") (codes "FILE"))
-        × ((fields_of c).has_globals ≡ false)) }
+    ensures { IfOk result (IsTold (spec.with_file (codes "asm") (codes "FILE"))) }
 {
-    described(
+    let command = described(
         alloc,
         "asm",
         "Assembles FILE and lists its instructions",
         "rvdap asm <FILE>",
         AFTER_HELP_OF_ASM,
-    )
-    .arg(file(
+    );
+    let text = file(
         alloc,
         "FILE",
         "A text of assembly, of at most 1,048,576 bytes",
-    ))
+    );
+    told(Ok(command), text)
 }
 
 fn watch<'a>(alloc: Global) -> Result<Command<'a>, AllocError>
-    ensures { IfOk result (λ c. (app_of c ≡ spec.watch) × ((fields_of c).has_globals ≡ false)) }
+    ensures { IfOk result (IsTold spec.watch) }
 {
-    described(
+    let command = described(
         alloc,
         "watch",
         "Plays SCRIPT and prints what an editor knows then",
         "rvdap watch <SCRIPT> [<C> [<N>]]",
         AFTER_HELP_OF_WATCH,
-    )
-    .arg(file(
+    );
+    let script = file(
         alloc,
         "SCRIPT",
         "Events of a session, line by line, and what is watched",
-    ))?
-    .arg(word(
+    );
+    let connection = word(
         alloc,
         "C",
         "The connection that is watched, whatever SCRIPT says",
-    ))?
-    .arg(word(
+    );
+    let bytes = word(
         alloc,
         "N",
         "How many bytes for it are watched; all if not given",
-    ))
+    );
+    told(told(told(Ok(command), script), connection), bytes)
 }
 
 fn replay<'a>(alloc: Global) -> Result<Command<'a>, AllocError>
-    ensures { IfOk result (λ c. (app_of c ≡ spec.replay) × ((fields_of c).has_globals ≡ false)) }
+    ensures { IfOk result (IsTold spec.replay) }
 {
-    replay_of_a_part(alloc)?.arg(file(alloc, "SCRIPT", "A recording, or another script of `watch`"))
-}
-
-// `replay`, told of its options.
-fn replay_of_a_part<'a>(alloc: Global) -> Result<Command<'a>, AllocError>
-    ensures { IfOk result (λ c. (app_of c ≡ spec.replay_of_a_part)
-        × ((fields_of c).has_globals ≡ false)) }
-{
-    described(
+    let command = Ok(described(
         alloc,
         "replay",
         "Plays SCRIPT and prints the conversation",
         "rvdap replay [--from <N>] [--to <N>] [--facts] <SCRIPT>",
         AFTER_HELP_OF_REPLAY,
+    ));
+    let command = told(command, from(alloc));
+    let command = told(command, to(alloc));
+    let command = told(command, facts(alloc));
+    told(
+        command,
+        file(alloc, "SCRIPT", "A recording, or another script of `watch`"),
     )
-    .arg(from(alloc))?
-    .arg(to(alloc))?
-    .arg(facts(alloc))
 }
 
 fn from<'a>(alloc: Global) -> Arg<'a>
@@ -439,41 +432,33 @@ fn word<'a>(alloc: Global, id: &'a str, help: &'a str) -> Arg<'a>
 }
 
 fn run<'a>(alloc: Global) -> Result<Command<'a>, AllocError>
-    ensures { IfOk result (λ c. (app_of c ≡ spec.run) × ((fields_of c).has_globals ≡ false)) }
+    ensures { IfOk result (IsTold spec.run) }
 {
-    run_that_tells(alloc)?.arg(files(
+    let command = told(run_of_a_machine(alloc), count(alloc));
+    let command = told(command, registers(alloc));
+    let command = told(command, trace(alloc));
+    let texts = files(
         alloc,
         "Texts of assembly, one after the other, of at most\n1,048,576 bytes together",
-    ))
-}
-
-// `run`, told of all of its options.
-fn run_that_tells<'a>(alloc: Global) -> Result<Command<'a>, AllocError>
-    ensures { IfOk result (λ c. (app_of c ≡ spec.run_that_tells)
-        × ((fields_of c).has_globals ≡ false)) }
-{
-    run_of_a_machine(alloc)?
-        .arg(count(alloc))?
-        .arg(registers(alloc))?
-        .arg(trace(alloc))
+    );
+    told(command, texts)
 }
 
 // `run`, told of the options that are about the machine.
 fn run_of_a_machine<'a>(alloc: Global) -> Result<Command<'a>, AllocError>
-    ensures { IfOk result (λ c. (app_of c ≡ spec.run_of_a_machine)
-        × ((fields_of c).has_globals ≡ false)) }
+    ensures { IfOk result (IsTold spec.run_of_a_machine) }
 {
-    described(
+    let command = Ok(described(
         alloc,
         "run",
         "Runs the program in FILE",
         "rvdap run [--memory <KIB>] [--limit <N>] [--output-limit <BYTES>]\n          \
          [--count] [--registers] [--trace <N>] <FILE>..",
         AFTER_HELP_OF_RUN,
-    )
-    .arg(memory(alloc))?
-    .arg(limit(alloc))?
-    .arg(output_limit(alloc))
+    ));
+    let command = told(command, memory(alloc));
+    let command = told(command, limit(alloc));
+    told(command, output_limit(alloc))
 }
 
 fn limit<'a>(alloc: Global) -> Arg<'a>
@@ -528,53 +513,57 @@ fn count<'a>(alloc: Global) -> Arg<'a>
 }
 
 fn check<'a>(alloc: Global) -> Result<Command<'a>, AllocError>
-    ensures { IfOk result (λ c. (app_of c ≡ spec.check) × ((fields_of c).has_globals ≡ false)) }
+    ensures { IfOk result (IsTold spec.check) }
 {
-    described(
+    let command = Ok(described(
         alloc,
         "check",
         "Tells the errors of each FILE, and what to write instead",
         "rvdap check [--json] <FILE>..",
         AFTER_HELP_OF_CHECK,
+    ));
+    let command = told(command, json(alloc));
+    told(
+        command,
+        files(alloc, "Texts of assembly, each of at most 1,048,576 bytes"),
     )
-    .arg(json(alloc))?
-    .arg(files(alloc, "Texts of assembly, each of at most 1,048,576 bytes"))
 }
 
 fn labels<'a>(alloc: Global) -> Result<Command<'a>, AllocError>
-    ensures { IfOk result (λ c. (app_of c ≡ spec.labels) × ((fields_of c).has_globals ≡ false)) }
+    ensures { IfOk result (IsTold spec.labels) }
 {
-    described(
+    let command = Ok(described(
         alloc,
         "labels",
         "Tells the labels of FILE",
         "rvdap labels [--json] <FILE>",
         AFTER_HELP_OF_LABELS,
-    )
-    .arg(json(alloc))?
-    .arg(file(
+    ));
+    let command = told(command, json(alloc));
+    let text = file(
         alloc,
         "FILE",
         "A text of assembly, of at most 1,048,576 bytes",
-    ))
+    );
+    told(command, text)
 }
 
 fn convert<'a>(alloc: Global) -> Result<Command<'a>, AllocError>
-    ensures { IfOk result (λ c. (app_of c ≡ spec.with_file (codes "convert") (codes "FILE"))
-        × ((fields_of c).has_globals ≡ false)) }
+    ensures { IfOk result (IsTold (spec.with_file (codes "convert") (codes "FILE"))) }
 {
-    described(
+    let command = described(
         alloc,
         "convert",
         "Writes the program in FILE as this assembler takes it",
         "rvdap convert <FILE>",
         AFTER_HELP_OF_CONVERT,
-    )
-    .arg(file(
+    );
+    let text = file(
         alloc,
         "FILE",
         "A text of assembly, of at most 1,048,576 bytes",
-    ))
+    );
+    told(Ok(command), text)
 }
 
 fn json<'a>(alloc: Global) -> Arg<'a>

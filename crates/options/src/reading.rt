@@ -1,5 +1,7 @@
 //! What the words after the program's name ask for.
-ghost use Rattle.std.specs.Prelude.{IfOk, map, string_bytes};
+ghost use Rattle.std.specs.Prelude.{◌≡◌, IfOk, map, string_bytes};
+ghost use Rattle.clap.specs.Words.{app_of};
+ghost use Rattle.options.specs.CommandLine.{command_line};
 ghost use Rattle.options.specs.Options.{Answers, IsConsistent, Tells, asked};
 
 use crate::asked::Options;
@@ -7,8 +9,8 @@ use crate::command::command;
 use crate::fault::error_of;
 use crate::rules;
 use crate::usage::Usage;
-use clap::Error;
 use clap::error::ErrorKind;
+use clap::{Command, Error};
 use std::alloc::Global;
 
 /// What the words after the program's name ask for:
@@ -39,9 +41,26 @@ pub fn try_options(alloc: Global, words: &[String]) -> Result<Options, Error>
     ensures consistent { IfOk result IsConsistent }
 {
     let mut command = command(alloc)?;
+    let options = options_by(alloc, &mut command, words);
+    drop(command);
+    options
+}
+
+// The options that these words ask for, by what clap makes of them.
+fn options_by<'a>(
+    alloc: Global,
+    command: &mut Command<'a>,
+    words: &'a [String],
+) -> Result<Options, Error>
+    requires { app_of command.old ≡ command_line }
+    ensures answers { Tells result (asked (map string_bytes words.now)) }
+    ensures consistent { IfOk result IsConsistent }
+{
     let matches = command.try_get_matches_from_mut(words)?;
-    match rules::asked(alloc, &matches) {
+    let asked = rules::asked(alloc, &matches);
+    drop(matches);
+    match asked {
         Ok(options) => Ok(options),
-        Err(fault) => Err(error_of(alloc, &mut command, fault)),
+        Err(fault) => Err(error_of(alloc, command, fault)),
     }
 }

@@ -15,7 +15,7 @@ use framing::{Unframer, frame};
 use session::{Applied, Config, Event, EventError, Limits};
 use std::alloc::{AllocError, Global};
 use std::cmp;
-use watch_events::{Watched, watch};
+use watch_events::watch;
 
 /// What it takes to say what an editor knows after a message: what the session is made of, its events, the newest connection,
 /// and how many bytes were queued for it.
@@ -125,25 +125,40 @@ impl<'a> Knowing<'a> {
             self.connection,
             self.queued,
         ) {
-            Ok(watched) => indented(self.alloc, &watched, self.config.memory_size),
+            Ok(watched) => {
+                let lines = lines_of(self.alloc, &watched, self.config.memory_size);
+                drop(watched);
+                indented(self.alloc, lines?)
+            }
             Err(_) => Err(AllocError),
         }
     }
 }
 
-// The lines of what is known, with two blanks before each.
-fn indented(alloc: Global, watched: &Watched, memory_size: u32) -> Result<Vec<u8>, AllocError> {
-    let lines = lines_of(alloc, watched, memory_size)?;
+// Lines, with two blanks before each.
+fn indented(alloc: Global, lines: String) -> Result<Vec<u8>, AllocError> {
     let mut text = Vec::new(alloc);
+    let added = indent(&mut text, lines.as_bytes());
+    drop(lines);
+    match added {
+        Ok(()) => Ok(text),
+        Err(error) => {
+            drop(text);
+            Err(error)
+        }
+    }
+}
+
+fn indent(text: &mut Vec<u8>, lines: &[u8]) -> Result<(), AllocError> {
     let mut begins = true;
-    for byte in lines.as_bytes() {
+    for byte in lines {
         if begins {
             text.extend_from_slice(b"  ")?;
         }
         text.push(*byte)?;
         begins = *byte == b'\n';
     }
-    Ok(text)
+    Ok(())
 }
 
 // The first `count` events.

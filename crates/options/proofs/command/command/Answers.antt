@@ -1,6 +1,12 @@
 use Rattle.options.specs.CommandLine.{command_line}
-use Rattle.options.proofs.Adding.{added}
 
 pub returns : Rattle.options.proofs.command.command.Goals.returns
 unfolding command_line
-returns c = added _ _ c.subcommand.result c.in_ok-replay.ensures.1 c.in_ok-with_convert.ensures c.in_ok-replay.ensures.0 c.subcommand.ensures
+returns c =
+    let asm = c.added-command.ensures _ _ c.with_options-command.ensures c.asm.ensures in
+    let watch = c.added-command-2.ensures _ _ asm c.watch.ensures in
+    let run = c.added-command-3.ensures _ _ watch c.run.ensures in
+    let check = c.added-command-4.ensures _ _ run c.check.ensures in
+    let labels = c.added-command-5.ensures _ _ check c.labels.ensures in
+    let convert = c.added-command-6.ensures _ _ labels c.convert.ensures in
+    c.added.ensures _ _ convert c.replay.ensures

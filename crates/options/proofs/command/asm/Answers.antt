@@ -1,0 +1,2 @@
+pub returns : Rattle.options.proofs.command.asm.Goals.returns
+returns c = c.told.ensures _ _ c.described-command.ensures c.file-text.ensures.rule

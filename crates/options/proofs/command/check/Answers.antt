@@ -1,0 +1,2 @@
+pub returns : Rattle.options.proofs.command.check.Goals.returns
+returns c = c.told.ensures _ _ (c.told-command.ensures _ _ c.described.ensures c.json.ensures.rule) c.files.ensures.rule
