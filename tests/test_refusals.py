@@ -64,7 +64,7 @@ TAKE_NONE = {
     "Unframer::new", "Unframer::next_body", "Unframer::retract", "Server::new", "Command::name", "Memory::byte", "Memory::word", "Memory::word_bytes", "Memory::read",
     "LineTable::new", "LineTable::line_of", "LineTable::address_of", "LineTable::bind", "LineTable::starts", "LineTable::label_at", "LineTable::label_address",
     "decode", "encode", "reg_name", "reg_of", "Hart::new", "Expr::value",
-    "Breaks::check", "Breaks::look", "Breaks::ids", "Breaks::logs", "Breaks::log_text", "Breaks::clear",
+    "Breaks::check", "Breaks::stand_at", "Breaks::ids", "Breaks::logs", "Breaks::log_text", "Breaks::clear",
     "Breaks::reset_hits", "destination", "undo_of", "undo_at", "Undo::of_pc", "Undo::stored", "Hart::undo",
     "Calls::depth", "Calls::kept", "Calls::entry", "Runner::begin", "Runner::recorded", "Runner::turns_back",
     "Handles::new", "Handles::find", "Handles::end_stop", "set_register", "Session::connect", "Session::hold", "Session::sent", "Session::drop_connection", "Session::waiting", "Session::runnable",

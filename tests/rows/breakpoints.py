@@ -4,7 +4,7 @@ from rows.steps import go, sets
 from support.players import NO_MEMORY, Row, alike, tried
 
 PLAYER = "test_machine"
-TAKES_NONE = {"Breaks::check": "breaks check", "Breaks::look": "breaks look", "Breaks::ids": "breaks ids", "Breaks::logs": "breaks logs",
+TAKES_NONE = {"Breaks::check": "breaks check", "Breaks::stand_at": "breaks look", "Breaks::ids": "breaks ids", "Breaks::logs": "breaks logs",
               "Breaks::log_text": "breaks text", "Breaks::clear": "breaks clear", "Breaks::reset_hits": "breaks reset", "Breaks::has": "breaks has",
               "Breaks::forget_ids": "breaks forget"}
 BASE = 0x10000

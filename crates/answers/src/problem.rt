@@ -7,7 +7,7 @@ use protocol::Text;
 use std::alloc::{AllocError, Global};
 
 /// Why a breakpoint is not set, in the order in which this is looked at.
-#[derive(Clone, Copy, Debug, PartialEq, Eq)]
+#[derive(Clone, Copy, PartialEq, Eq)]
 pub(crate) enum Problem {
     /// The source is not the program's.
     UnknownSource,

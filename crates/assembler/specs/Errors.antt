@@ -1,13 +1,25 @@
 -- What is reported of a text that has no image: a line, counted from 1, and what is wrong with it.
 -- That a text is too long is reported at line 0. Where no memory is left for its lines, that is
 -- reported instead, at line 0 too.
-use Rattle.std.specs.Prelude.{◌≡◌, ℕ, Option, Some, None, Result, Ok, Err}
+use Rattle.std.specs.Prelude.{◌≡◌, ℕ, List, Option, Some, None, Result, Ok, Err, codes}
 use Rattle.assembler.specs.declared.error.AsmError.{AsmError}
 use Rattle.assembler.specs.declared.error.AsmErrorKind.{AsmErrorKind}
 use Rattle.assembler.specs.declared.error.AsmErrorKind.TheVariants as k
 use Rattle.statements.specs.declared.error.LineError.{LineError}
 use Rattle.statements.specs.declared.error.LineError.TheVariants.{Syntax, UnknownInstruction, BadOperand, OutOfRange}
 use Rattle.statements.specs.declared.error.LineError.TheVariants.{NoMemory}
+
+-- the name of what is wrong with a line
+abbrev pub kind_name : AsmErrorKind → List ℕ
+kind_name k.NotUtf8 = codes "NotUtf8"
+kind_name k.Syntax = codes "Syntax"
+kind_name k.UnknownInstruction = codes "UnknownInstruction"
+kind_name k.BadOperand = codes "BadOperand"
+kind_name k.OutOfRange = codes "OutOfRange"
+kind_name k.TwiceDefined = codes "TwiceDefined"
+kind_name k.Undefined = codes "Undefined"
+kind_name k.TooLarge = codes "TooLarge"
+kind_name k.NoMemory = codes "NoMemory"
 
 -- an error at a line
 abbrev pub at : ℕ → AsmErrorKind → AsmError

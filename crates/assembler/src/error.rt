@@ -38,6 +38,25 @@ pub enum AsmErrorKind {
     NoMemory,
 }
 
+impl AsmErrorKind {
+    /// Its name, as `OutOfRange`.
+    pub fn name(self) -> &'static str
+        ensures { result.now ≡ spec.kind_name self }
+    {
+        match self {
+            AsmErrorKind::NotUtf8 => "NotUtf8",
+            AsmErrorKind::Syntax => "Syntax",
+            AsmErrorKind::UnknownInstruction => "UnknownInstruction",
+            AsmErrorKind::BadOperand => "BadOperand",
+            AsmErrorKind::OutOfRange => "OutOfRange",
+            AsmErrorKind::TwiceDefined => "TwiceDefined",
+            AsmErrorKind::Undefined => "Undefined",
+            AsmErrorKind::TooLarge => "TooLarge",
+            AsmErrorKind::NoMemory => "NoMemory",
+        }
+    }
+}
+
 /// Why a text has no image: the line, counted from 1, and what is wrong with it.
 #[derive(Clone, Copy, Debug, PartialEq, Eq, Error)]
 #[error("line {line}: {kind}")]

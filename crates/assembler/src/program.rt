@@ -14,7 +14,7 @@ use std::alloc::Global;
 pub const TEXT_LIMIT: usize = 1_048_576;
 
 /// A line that says something.
-#[derive(Debug, Drop)]
+#[derive(Drop)]
 pub(crate) struct Source<'a> {
     /// Its number, from 1 on.
     pub number: u32,

@@ -13,7 +13,7 @@ use rv32i::Hart;
 use std::alloc::{AllocError, Global};
 use std::marker::Model;
 
-/// The breakpoints of source lines, of instructions and of functions, which of them stopped at the last check or stood at the last look,
+/// The breakpoints of source lines, of instructions and of functions, which of them stopped at the last check or were found by `stand_at`,
 /// and which logpoints had something to say at a check. A contract sees the three lists, the ids of those that stopped or stood, the
 /// source list's first and those of functions last, and the places in the source list of the logpoints.
 #[derive(Drop)]
@@ -198,7 +198,7 @@ impl Breaks {
 
     /// Looks at the breakpoints at pc where a program goes back, and says which kinds of them stand there, however often they were hit. No
     /// hit counts, and no logpoint stands or has something to say. It takes no memory.
-    pub fn look(&mut self, pc: u32, hart: &Hart, memory: &Memory) -> Hit
+    pub fn stand_at(&mut self, pc: u32, hart: &Hart, memory: &Memory) -> Hit
         ensures lists { self.new ≡ looked pc hart.now memory.now self.old }
         ensures hit { result ≡ standing_in pc hart.now memory.now self.old }
     {
@@ -217,7 +217,7 @@ impl Breaks {
         }
     }
 
-    /// Forgets which breakpoints stopped at the last check or stood at the last look, and which logpoints had something to say: no ids and
+    /// Forgets which breakpoints stopped at the last check or were found by `stand_at`, and which logpoints had something to say: no ids and
     /// no places are lent until the next one.
     pub fn forget_ids(&mut self)
         ensures { self.new ≡ record self.old { ids = []; logs = [] } }
@@ -247,7 +247,7 @@ impl Breaks {
         &self.functions
     }
 
-    /// The ids of the breakpoints that stopped at the last check, or stood at the last look if that came later: those of the source list
+    /// The ids of the breakpoints that stopped at the last check, or were found by `stand_at` if that came later: those of the source list
     /// first and those of functions last.
     pub fn ids(&self) -> &[u32]
         ensures { result.now ≡ self.now.ids }
@@ -255,7 +255,7 @@ impl Breaks {
         &self.ids
     }
 
-    /// The places in the source list of the logpoints that had something to say at the last check, in the list's order; none after a look.
+    /// The places in the source list of the logpoints that had something to say at the last check, in the list's order; none after `stand_at`.
     pub fn logs(&self) -> &[u32]
         ensures { result.now ≡ self.now.logs }
     {

@@ -12,7 +12,7 @@ use std::alloc::AllocError;
 use std::process::ExitCode;
 
 // How the check of a file ended.
-#[derive(Clone, Copy, Debug, PartialEq, Eq)]
+#[derive(Clone, Copy, PartialEq, Eq)]
 enum Checked {
     // It assembles.
     Right,

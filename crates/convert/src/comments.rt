@@ -4,7 +4,7 @@ use crate::fields::Quoting;
 use std::alloc::{AllocError, Global};
 
 // What a place of a line is.
-#[derive(Clone, Copy, Debug, PartialEq, Eq)]
+#[derive(Clone, Copy, PartialEq, Eq)]
 enum Place {
     // Code, in quotes or not.
     Code(Quoting),

@@ -1,7 +1,7 @@
 //! Directives of other assemblers.
 
 /// What a directive of another assembler is here.
-#[derive(Clone, Copy, Debug, PartialEq, Eq)]
+#[derive(Clone, Copy, PartialEq, Eq)]
 pub(crate) enum Directive {
     /// It means nothing here.
     Nothing,
@@ -22,7 +22,7 @@ pub(crate) enum Directive {
 }
 
 /// What comes after the bytes of a text.
-#[derive(Clone, Copy, Debug, PartialEq, Eq)]
+#[derive(Clone, Copy, PartialEq, Eq)]
 pub(crate) enum Ending {
     /// Nothing.
     None,

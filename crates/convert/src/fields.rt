@@ -4,7 +4,7 @@ use byte_strings::{is_blank, trimmed, without_leading_blanks};
 use std::alloc::{AllocError, Global};
 
 /// Whether a place of a line is in quotes.
-#[derive(Clone, Copy, Debug, PartialEq, Eq)]
+#[derive(Clone, Copy, PartialEq, Eq)]
 pub(crate) enum Quoting {
     /// It is in none.
     Outside,

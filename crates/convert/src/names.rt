@@ -5,7 +5,7 @@ use std::alloc::{AllocError, Global};
 use std::collections::BTreeMap;
 
 // What a name means.
-#[derive(Clone, Copy, Debug, PartialEq, Eq)]
+#[derive(Clone, Copy, PartialEq, Eq)]
 enum Meaning {
     // A number.
     Constant(i64),

@@ -1,7 +1,7 @@
 //! What the signs of a sum of constants do, as GNU as has it ("Using as", section 6.2).
 
 /// An operator, or a bracket that waits for its end.
-#[derive(Clone, Copy, Debug, PartialEq, Eq)]
+#[derive(Clone, Copy, PartialEq, Eq)]
 pub(crate) enum Operation {
     /// `(`.
     Open,

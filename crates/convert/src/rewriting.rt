@@ -14,7 +14,7 @@ use std::alloc::{AllocError, Global};
 use std::str;
 
 /// What became of a statement.
-#[derive(Clone, Copy, Debug)]
+#[derive(Clone, Copy)]
 pub(crate) enum Rewritten {
     /// It was written, or means nothing here.
     Said,

@@ -25,7 +25,7 @@ impl From<AllocError> for Unvalued {
 }
 
 // Whether an operand is to come, or an operator.
-#[derive(Clone, Copy, Debug, PartialEq, Eq)]
+#[derive(Clone, Copy, PartialEq, Eq)]
 enum Next {
     Operand,
     Operator,

@@ -39,7 +39,7 @@ impl Model for Calls {
 }
 
 /// What an instruction did to the calls.
-#[derive(Clone, Copy, Debug, PartialEq, Eq)]
+#[derive(Clone, Copy, PartialEq, Eq)]
 pub(crate) enum Called {
     /// It neither called nor returned, or it returned where no call was open.
     Nothing,

@@ -17,7 +17,7 @@ use Rattle.stepping.proofs.Advancing.{stays_so}
 use Rattle.stepping.proofs.Cases.{Enters, GoesBack, by_tick}
 use Rattle.stepping.proofs.Determined.{tick_is_deterministic}
 use Rattle.stepping.proofs.Existing.{the_tick}
-use Rattle.debuggee.specs.declared.program.Advanced.TheVariants.{Owes, Meets, Lacks}
+use Rattle.debuggee.specs.declared.program.Advanced.TheVariants.{HasOutput, Stops, OutOfMemory}
 use Rattle.debuggee.proofs.Naming.{looks_name_none, owes_it, owing_none, plain_owes_none, undone_names_none}
 
 -- ---- one tick
@@ -204,7 +204,7 @@ spent_names_none most before ran after none e h =
     subst NamesNone (sym ends.1) (none_named_after ran.went before h.middle none h.goes)
 
 pub run_lacks : (most : ℕ) (p : Program) (ran : Ran) (after : Debugged) → p.owed ≡ None → ran.ending ≡ ending.NoMemory
-    → IsRun most p.machine ran after → Advances most p (Lacks ran.went) (with_machine p after)
+    → IsRun most p.machine ran after → Advances most p (OutOfMemory ran.went) (with_machine p after)
 run_lacks most p ran after none e h =
     let ends : EndsRun most ran.went ending.NoMemory h.middle after = subst
     (λ (x : RunEnd). EndsRun most ran.went x h.middle after) e h.ends in (
@@ -224,7 +224,7 @@ lacking_names_none most before ran after none e h =
 
 pub run_meets : (most : ℕ) (p : Program) (ran : Ran) (tick : Tick) (after : Debugged) → p.owed ≡ None → NamesNone p.machine
     → p.machine.check_due ≡ false → ran.ending ≡ ending.Ticked tick → stays tick.outcome ≡ true → IsRun most p.machine ran after
-    → Advances most p (Meets ran.went tick) (with_machine p after) × NamesNone after
+    → Advances most p (Stops ran.went tick) (with_machine p after) × NamesNone after
 run_meets most p ran tick after none names due e s h =
     let ends : EndsRun most ran.went (ending.Ticked tick) h.middle after = subst
     (λ (x : RunEnd). EndsRun most ran.went x h.middle after) e h.ends in
@@ -243,7 +243,7 @@ run_meets most p ran tick after none names due e s h =
 
 pub run_owes : (most : ℕ) (p : Program) (ran : Ran) (tick : Tick) (after : Debugged) → p.owed ≡ None → ran.ending ≡ ending.Ticked tick
     → stays tick.outcome ≡ false → IsRun most p.machine ran after
-    → Advances most p (Owes (ran.went + 1)) (record p { machine = after; owed = Some tick })
+    → Advances most p (HasOutput (ran.went + 1)) (record p { machine = after; owed = Some tick })
 run_owes most p ran tick after none e s h =
     let ends : EndsRun most ran.went (ending.Ticked tick) h.middle after = subst
     (λ (x : RunEnd). EndsRun most ran.went x h.middle after) e h.ends in

@@ -35,7 +35,7 @@ use Rattle.stepping.specs.declared.tick.Reason.TheVariants.{Exception, Ebreak, S
 use Rattle.stepping.specs.declared.tick.Tick.{Tick}
 use Rattle.stepping.proofs.Existing.{the_tick}
 use Rattle.debuggee.specs.declared.program.Advanced.{Advanced}
-use Rattle.debuggee.specs.declared.program.Advanced.TheVariants.{Spent, Owes, Meets, Lacks}
+use Rattle.debuggee.specs.declared.program.Advanced.TheVariants.{Spent, HasOutput, Stops, OutOfMemory}
 use Rattle.debuggee.specs.declared.run.Run.{Run}
 use Rattle.debuggee.specs.declared.run.Run.TheVariants.{Running, Stopped, Ended}
 use Rattle.debuggee.specs.declared.run.Mark.{Mark}
@@ -274,8 +274,8 @@ GoesQuietly (suc n) p q = (middle : Program)
 -- before an instruction that stays; or `n`, before one for which no memory was left.
 abbrev pub Advances : ℕ → Program → Advanced → Program → Type 0
 Advances most p Spent q = GoesQuietly most p q
-Advances most p (Owes n) q = (middle : Program) × (k : ℕ) × ((n ≡ suc k) × ((k < most) × (GoesQuietly k p middle
+Advances most p (HasOutput n) q = (middle : Program) × (k : ℕ) × ((n ≡ suc k) × ((k < most) × (GoesQuietly k p middle
     × ((stays (next_tick middle).outcome ≡ false) × (((moved middle).owed ≢ None) × (q ≡ moved middle))))))
-Advances most p (Meets n tick) q =
+Advances most p (Stops n tick) q =
     (n < most) × (GoesQuietly n p q × ((next_tick q ≡ tick) × (stays tick.outcome ≡ true)))
-Advances most p (Lacks n) q = (n < most) × (GoesQuietly n p q × MayLackMemory q.machine)
+Advances most p (OutOfMemory n) q = (n < most) × (GoesQuietly n p q × MayLackMemory q.machine)

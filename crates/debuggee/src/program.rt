@@ -60,13 +60,13 @@ pub enum Advanced {
     /// As many as asked for were made, and there is nothing to tell.
     Spent,
     /// This many were made, and the program owes what the last one came to.
-    Owes(u32),
+    HasOutput(u32),
     /// This many were made, with nothing to tell of them. The instruction that comes next was not made: it traps or ends the
     /// program, and would come to this.
-    Meets(u32, Tick),
+    Stops(u32, Tick),
     /// This many were made, with nothing to tell of them. The move that comes next was not made: no memory was left for a page of
     /// zeros into which it stores, or into which it puts a byte back.
-    Lacks(u32),
+    OutOfMemory(u32),
 }
 
 impl Program {
@@ -176,13 +176,13 @@ impl Program {
             RunEnd::Spent => Advanced::Spent,
             RunEnd::Ticked(tick) => {
                 if stays(tick.outcome) {
-                    Advanced::Meets(ran.went, tick)
+                    Advanced::Stops(ran.went, tick)
                 } else {
                     self.owed = Some(tick);
-                    Advanced::Owes(ran.went + 1)
+                    Advanced::HasOutput(ran.went + 1)
                 }
             }
-            RunEnd::NoMemory => Advanced::Lacks(ran.went),
+            RunEnd::NoMemory => Advanced::OutOfMemory(ran.went),
         }
     }
 

@@ -9,23 +9,12 @@
 use Rattle.std.specs.Prelude.{⊤, ◌≡◌, ℕ, zero, suc, List, [], ◌∷◌, ◌++◌, Option, Some, None, codes, map}
 use Rattle.std.specs.Fmt.{decimal}
 use Rattle.std.specs.List.{All, flat_map}
+use Rattle.assembler.specs.Errors.{kind_name}
 use Rattle.assembler.specs.declared.error.AsmError.{AsmError}
 use Rattle.assembler.specs.declared.error.AsmErrorKind.{AsmErrorKind}
 use Rattle.assembler.specs.declared.error.AsmErrorKind.TheVariants as k
 use Rattle.diagnostics.specs.Errors.{errors_in, Located}
 use Rattle.diagnostics.specs.Parts.{IsWithin}
-
--- the name of a kind of error
-abbrev pub name_of : AsmErrorKind → List ℕ
-name_of k.NotUtf8 = codes "NotUtf8"
-name_of k.Syntax = codes "Syntax"
-name_of k.UnknownInstruction = codes "UnknownInstruction"
-name_of k.BadOperand = codes "BadOperand"
-name_of k.OutOfRange = codes "OutOfRange"
-name_of k.TwiceDefined = codes "TwiceDefined"
-name_of k.Undefined = codes "Undefined"
-name_of k.TooLarge = codes "TooLarge"
-name_of k.NoMemory = codes "NoMemory"
 
 -- what it says, where nothing more is known
 abbrev pub explanation : AsmErrorKind → List ℕ
@@ -80,7 +69,7 @@ place file finding = file ++ number_of finding.error.line ++ number_of finding.c
 
 -- what is wrong: the kind of error, and words
 abbrev pub said : Finding → List ℕ
-said finding = codes ": error: " ++ name_of finding.error.kind ++ codes ": " ++ finding.words ++ codes "\n"
+said finding = codes ": error: " ++ kind_name finding.error.kind ++ codes ": " ++ finding.words ++ codes "\n"
 
 -- what is told of an error
 abbrev pub told : List ℕ → Finding → List ℕ

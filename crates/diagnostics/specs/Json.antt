@@ -4,7 +4,8 @@ use Rattle.std.specs.Prelude.{ℕ, List, [], ◌∷◌, ◌++◌, Option, Some, 
 use Rattle.std.specs.List.{flat_map}
 use Rattle.serde_json.specs.Data.{Data, member, no_members, null, number, object, string, unsigned}
 use Rattle.serde_json.specs.Written.{compact_text}
-use Rattle.diagnostics.specs.Diagnoses.{Finding, name_of}
+use Rattle.assembler.specs.Errors.{kind_name}
+use Rattle.diagnostics.specs.Diagnoses.{Finding}
 
 -- a line, or that it is left out
 abbrev pub line_data : Option (List ℕ) → Data
@@ -16,7 +17,7 @@ abbrev pub told_data : List ℕ → Finding → Data
 told_data file finding = object (member (codes "column") (number (unsigned finding.column))
     (member (codes "explanation") (string finding.words)
     (member (codes "file") (string file)
-    (member (codes "kind") (string (name_of finding.error.kind))
+    (member (codes "kind") (string (kind_name finding.error.kind))
     (member (codes "line") (number (unsigned finding.error.line))
     (member (codes "text") (line_data finding.line) no_members))))))
 

@@ -8,7 +8,6 @@ ghost use Rattle.diagnostics.specs.Errors.{line_in};
 ghost use Rattle.diagnostics.specs.Findings.{finding_of, findings_of};
 
 use crate::errors::{Told, errors_in, told_of};
-use crate::explaining::name;
 use assembler::AsmError;
 use std::alloc::{AllocError, Global};
 
@@ -75,7 +74,7 @@ fn push_words(lines: &mut String, told: &Told) -> Result<(), AllocError>
         ++ spec.said (finding_of told.now)) }
 {
     lines.push_str(": error: ")?;
-    lines.push_str(name(told.error.kind))?;
+    lines.push_str(told.error.kind.name())?;
     lines.push_str(": ")?;
     lines.push_str(told.fault.words.as_str())?;
     lines.push('\n')

@@ -26,7 +26,7 @@ const MEMORY_SIZE: u32 = 1_048_576;
 const MOST_GUESSES: usize = 100;
 
 /// An error of a text, and what is told of it.
-#[derive(Debug, Drop)]
+#[derive(Drop)]
 pub(crate) struct Told<'a> {
     /// The line, and what kind of error it has.
     pub error: AsmError,

@@ -22,20 +22,3 @@ pub fn explanation(kind: AsmErrorKind) -> &'static str
         AsmErrorKind::NoMemory => "no memory",
     }
 }
-
-// The name of a kind.
-pub(crate) fn name(kind: AsmErrorKind) -> &'static str
-    ensures { result.now ≡ spec.name_of kind }
-{
-    match kind {
-        AsmErrorKind::NotUtf8 => "NotUtf8",
-        AsmErrorKind::Syntax => "Syntax",
-        AsmErrorKind::UnknownInstruction => "UnknownInstruction",
-        AsmErrorKind::BadOperand => "BadOperand",
-        AsmErrorKind::OutOfRange => "OutOfRange",
-        AsmErrorKind::TwiceDefined => "TwiceDefined",
-        AsmErrorKind::Undefined => "Undefined",
-        AsmErrorKind::TooLarge => "TooLarge",
-        AsmErrorKind::NoMemory => "NoMemory",
-    }
-}

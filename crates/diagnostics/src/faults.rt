@@ -21,7 +21,7 @@ use statements::{Line, LineError, Statement, read_line};
 use std::alloc::{AllocError, Global};
 
 /// What is told of a line with an error.
-#[derive(Debug, Drop)]
+#[derive(Drop)]
 pub(crate) struct Fault {
     /// The column, counted in bytes from 1.
     pub column: u32,

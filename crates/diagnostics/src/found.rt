@@ -8,7 +8,7 @@ use assembler::{AsmError, AsmErrorKind};
 use std::alloc::AllocError;
 
 /// What is out of range about the place of a line.
-#[derive(Clone, Copy, Debug)]
+#[derive(Clone, Copy)]
 pub(crate) enum Misfit {
     /// Its address.
     Address,
@@ -19,7 +19,7 @@ pub(crate) enum Misfit {
 }
 
 /// An error of a text.
-#[derive(Clone, Copy, Debug)]
+#[derive(Clone, Copy)]
 pub(crate) struct Found {
     /// The line, and what kind of error it has.
     pub error: AsmError,

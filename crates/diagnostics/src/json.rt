@@ -8,7 +8,6 @@ ghost use Rattle.diagnostics.specs.Findings.{finding_of, findings_of};
 ghost use Rattle.diagnostics.specs.Json as spec;
 
 use crate::errors::{Told, errors_in};
-use crate::explaining::name;
 use serde_json::{Value, json};
 use std::alloc::{AllocError, Global};
 
@@ -68,7 +67,7 @@ fn told_value(alloc: Global, file: &str, told: &Told) -> Result<Value, AllocErro
             "column": told.fault.column,
             "explanation": words,
             "file": file,
-            "kind": name(told.error.kind),
+            "kind": told.error.kind.name(),
             "line": told.error.line,
             "text": text
         }),
@@ -76,7 +75,7 @@ fn told_value(alloc: Global, file: &str, told: &Told) -> Result<Value, AllocErro
             "column": told.fault.column,
             "explanation": words,
             "file": file,
-            "kind": name(told.error.kind),
+            "kind": told.error.kind.name(),
             "line": told.error.line,
             "text": null
         }),

@@ -8,7 +8,7 @@ use statements::{LineError, read_line};
 use std::alloc::{AllocError, Global};
 
 /// What an operand has to be.
-#[derive(Clone, Copy, Debug, PartialEq, Eq)]
+#[derive(Clone, Copy, PartialEq, Eq)]
 pub(crate) enum Kind {
     /// A register.
     Register,

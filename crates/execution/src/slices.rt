@@ -36,7 +36,7 @@ pub(crate) fn run_slice(
 {
     let mut made = 0;
     while made < most {
-        let part = stretch(runner, most - made, lines)?;
+        let part = run_part(runner, most - made, lines)?;
         match part.end {
             Some(end) => {
                 return Ok(Slice {
@@ -58,7 +58,7 @@ const LONGEST_LINE: usize = 12;
 
 // At most `most` instructions, up to the first with something to report. Room for its line is made first, so that nothing that
 // was printed is lost.
-fn stretch(runner: &mut Runner, most: u32, lines: &mut String) -> Result<Slice, AllocError>
+fn run_part(runner: &mut Runner, most: u32, lines: &mut String) -> Result<Slice, AllocError>
     requires some { 1 ≤ most }
     requires few { runner.old.retired + most ≤ 2 ^ 62 }
     ensures ok { IfOk result (λ slice. IsSlice most slice.made slice.end runner.old runner.new

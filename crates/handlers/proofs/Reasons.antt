@@ -1,7 +1,8 @@
 -- The first of several reasons for a refusal.
 use Rattle.std.proofs.Common.{◌≡◌, List, [], ◌∷◌, ◌++◌, Option, Some, None, refl}
 use Rattle.protocol.specs.declared.refusal.Refusal.{Refusal}
-use Rattle.handlers.specs.Refusals.{first_refusal}
+use Rattle.queues.specs.declared.pending.Ask.{Ask}
+use Rattle.handlers.specs.Refusals.{first_refusal, path_in}
 
 -- one that does not apply, at the end, changes nothing
 pub first_refusal-none : (reasons : List (Option Refusal)) → first_refusal (reasons ++ None ∷ []) ≡ first_refusal reasons
@@ -22,3 +23,8 @@ pub first_refusal-later : (reasons more : List (Option Refusal)) → first_refus
 first_refusal-later [] more e = refl
 first_refusal-later (None ∷ reasons) more e = first_refusal-later reasons more e
 first_refusal-later (Some refusal ∷ reasons) more e = absurd (cc)
+
+-- a request that names no file wants none, refused or not
+pub names_no_file : (refusal : Option Refusal) (ask : Ask) → path_in None ask ≡ None → path_in refusal ask ≡ None
+names_no_file None ask e = e
+names_no_file (Some refusal) ask e = refl

@@ -1,6 +1,7 @@
--- What lets the program go back: `stepBack` and `reverseContinue` do. A move that is undone leaves the machine as it was
--- before it; the last moves are recorded, and where none is, there is nothing to undo (DAP specification,
--- `Capabilities.supportsStepBack`).
+-- What lets the program go back (DAP specification, `StepBackRequest`, `ReverseContinueRequest`,
+-- `Capabilities.supportsStepBack`): `stepBack` by one instruction, at every granularity, and `reverseContinue` until a
+-- breakpoint stands where it is, or no move is recorded any more. A move that is undone leaves the machine as it was
+-- before it; the last moves are recorded, and where none is, there is nothing to undo.
 use Rattle.std.specs.Prelude.{ℤ, List, [], ◌∷◌, Option, Some, None}
 use Rattle.course.specs.Positions.{Position}
 use Rattle.debuggee.specs.Programs.{Program, resumed}

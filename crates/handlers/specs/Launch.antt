@@ -5,10 +5,9 @@
 -- all: its answer is followed by the event that asks for the editor's settings.
 use Rattle.std.specs.Prelude.{ℕ, true, false, List, [], ◌∷◌, ◌++◌, Option, Some, None, codes, decimal}
 use Rattle.assembler.specs.Assembled.{assembled}
+use Rattle.assembler.specs.Errors.{kind_name}
 use Rattle.assembler.specs.Placed.{error_of}
 use Rattle.assembler.specs.declared.error.AsmError.{AsmError}
-use Rattle.assembler.specs.declared.error.AsmErrorKind.{AsmErrorKind}
-use Rattle.assembler.specs.declared.error.AsmErrorKind.TheVariants as kind
 use Rattle.debuggee.specs.Programs.{just_loaded}
 use Rattle.protocol.specs.declared.launch.LaunchArguments.{LaunchArguments}
 use Rattle.protocol.specs.declared.refusal.Refusal.TheVariants.{AssemblyFailed, FileUnreadable}
@@ -26,18 +25,6 @@ use Rattle.handlers.specs.Successes.{refusing}
 -- in which phases it is taken, and what it asks of the program
 abbrev pub demand : Demand
 demand = taken_in Initialized asks_nothing
-
--- the name of what is wrong with a line
-abbrev pub kind_name : AsmErrorKind → List ℕ
-kind_name kind.NotUtf8 = codes "NotUtf8"
-kind_name kind.Syntax = codes "Syntax"
-kind_name kind.UnknownInstruction = codes "UnknownInstruction"
-kind_name kind.BadOperand = codes "BadOperand"
-kind_name kind.OutOfRange = codes "OutOfRange"
-kind_name kind.TwiceDefined = codes "TwiceDefined"
-kind_name kind.Undefined = codes "Undefined"
-kind_name kind.TooLarge = codes "TooLarge"
-kind_name kind.NoMemory = codes "NoMemory"
 
 -- what is wrong with a file, as the editor is told
 abbrev pub error_text : AsmError → List ℕ

@@ -28,10 +28,8 @@ pub mod SetExceptionBreakpoints
 pub mod Continue
 pub mod Stepping
 pub mod Pause
--- what lets the program go back, and the two requests that do
+-- the two requests that let the program go back
 pub mod GoingBack
-pub mod StepBack
-pub mod ReverseContinue
 -- what sets breakpoints, and the three requests that do
 pub mod Breaks
 pub mod SetBreakpoints

@@ -34,8 +34,7 @@ use Rattle.handlers.specs.SetExceptionBreakpoints as set_exception_breakpoints
 use Rattle.handlers.specs.Continue as continue
 use Rattle.handlers.specs.Stepping as stepping
 use Rattle.handlers.specs.Pause as pause
-use Rattle.handlers.specs.StepBack as step_back
-use Rattle.handlers.specs.ReverseContinue as reverse_continue
+use Rattle.handlers.specs.GoingBack as going_back
 use Rattle.handlers.specs.Looking as looking
 use Rattle.handlers.specs.SetVariable as set_variable
 use Rattle.handlers.specs.WriteMemory as write_memory
@@ -59,8 +58,8 @@ demand_of (Continue arguments) = continue.demand arguments.thread_id
 demand_of (Next arguments) = stepping.demand arguments.thread_id
 demand_of (StepIn arguments) = stepping.demand arguments.thread_id
 demand_of (StepOut arguments) = stepping.demand arguments.thread_id
-demand_of (StepBack arguments) = step_back.demand arguments.thread_id
-demand_of (ReverseContinue arguments) = reverse_continue.demand arguments.thread_id
+demand_of (StepBack arguments) = going_back.demand arguments.thread_id
+demand_of (ReverseContinue arguments) = going_back.demand arguments.thread_id
 demand_of (Pause arguments) = pause.demand arguments.thread_id
 demand_of (StackTrace arguments) = looking.demand_on arguments.thread_id
 demand_of (Scopes arguments) = looking.demand
@@ -99,8 +98,8 @@ success_of given terms file (StepIn arguments) =
     stepping.success given terms (goal.In (granularity_of arguments.granularity))
 success_of given terms file (StepOut arguments) =
     stepping.success given terms (goal.Out (granularity_of arguments.granularity))
-success_of given terms file (StepBack arguments) = step_back.success given terms
-success_of given terms file (ReverseContinue arguments) = reverse_continue.success given terms
+success_of given terms file (StepBack arguments) = going_back.success given terms goal.Back
+success_of given terms file (ReverseContinue arguments) = going_back.success given terms goal.ReverseGo
 success_of given terms file (Pause arguments) = pause.success given terms
 success_of given terms file (StackTrace arguments) = looking.looks given terms (StackTrace arguments)
 success_of given terms file (Scopes arguments) = looking.looks given terms (Scopes arguments)

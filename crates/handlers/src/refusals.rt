@@ -104,19 +104,30 @@ fn taken(alloc: Global, lent: &Lent, ask: &Ask) -> Result<Answer, AllocError>
 }
 
 /// The path of the file that the answer to a request wants, if it wants one.
+#[tactic(auto, using(crate::proofs::Reasons::names_no_file))]
 pub fn wanted_by<'p>(run: Option<Run>, phase: Phase, pending: &'p Pending) -> Option<&'p str>
     ensures { option_map (λ path. path.now) result
         ≡ spec.path_in (spec.first_refusal (spec.refusals run phase pending.now)) pending.now.ask }
 {
-    match refusal_of(run, phase, pending) {
-        Some(_) => None,
-        None => match &pending.ask {
-            Ask::Request(request) => match &request.command {
-                Command::Launch(arguments) => Some(arguments.program.as_str()),
-                _ => None,
-            },
-            Ask::Bad { .. } => None,
+    match path_of(&pending.ask) {
+        Some(path) => match refusal_of(run, phase, pending) {
+            Some(_) => None,
+            None => Some(path),
         },
+        None => None,
+    }
+}
+
+// The path of the file that a request names, if it names one.
+fn path_of<'p>(ask: &'p Ask) -> Option<&'p str>
+    ensures { option_map (λ path. path.now) result ≡ spec.path_in None ask.now }
+{
+    match ask {
+        Ask::Request(request) => match &request.command {
+            Command::Launch(arguments) => Some(arguments.program.as_str()),
+            _ => None,
+        },
+        Ask::Bad { .. } => None,
     }
 }
 

@@ -15,10 +15,8 @@ pub mod launch;
 mod looks;
 mod pause;
 mod restart;
-mod reverse_continue;
 mod set_exception_breakpoints;
 mod set_variable;
-mod step_back;
 mod steps;
 mod terminate;
 mod threads;
@@ -29,6 +27,7 @@ use crate::demand::Demand;
 use crate::lent::Lent;
 use protocol::Command;
 use std::alloc::{AllocError, Global};
+use stepping::Goal;
 
 /// In which phases the request is taken, and what it asks of the program that is debugged.
 pub fn demand_of(command: &Command) -> Demand
@@ -52,8 +51,8 @@ pub fn demand_of(command: &Command) -> Demand
         Command::Next(arguments) => steps::demand(arguments.thread_id),
         Command::StepIn(arguments) => steps::demand(arguments.thread_id),
         Command::StepOut(arguments) => steps::demand(arguments.thread_id),
-        Command::StepBack(arguments) => step_back::demand(arguments.thread_id),
-        Command::ReverseContinue(arguments) => reverse_continue::demand(arguments.thread_id),
+        Command::StepBack(arguments) => going_back::demand(arguments.thread_id),
+        Command::ReverseContinue(arguments) => going_back::demand(arguments.thread_id),
         Command::Pause(arguments) => pause::demand(arguments.thread_id),
         Command::StackTrace(arguments) => looks::demand_on(arguments.thread_id),
         Command::Scopes(_)
@@ -90,8 +89,8 @@ pub fn success_of(alloc: Global, lent: &Lent, command: &Command) -> Result<Answe
         Command::Next(arguments) => Ok(steps::over(terms, arguments.granularity)),
         Command::StepIn(arguments) => Ok(steps::into(terms, arguments.granularity)),
         Command::StepOut(arguments) => Ok(steps::out(terms, arguments.granularity)),
-        Command::StepBack(_) => Ok(step_back::success(lent)),
-        Command::ReverseContinue(_) => Ok(reverse_continue::success(lent)),
+        Command::StepBack(_) => Ok(going_back::success(lent, Goal::Back)),
+        Command::ReverseContinue(_) => Ok(going_back::success(lent, Goal::ReverseGo)),
         Command::Pause(_) => Ok(pause::success(terms)),
         Command::StackTrace(_)
         | Command::Scopes(_)

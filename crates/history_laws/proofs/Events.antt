@@ -73,10 +73,6 @@ refused_same : (asks : Bool) (n : ℕ) → n ≡ cond (asks && false) 0 n
 refused_same true n = refl
 refused_same false n = refl
 
-none_there : (gives : Bool) (n : ℕ) → n ≡ 0 → n ≡ cond gives 0 n
-none_there true n e = e
-none_there false n e = refl
-
 -- what is written has a place in memory
 written_whole : (arguments : WriteMemoryArguments) (memory : List ℕ) (writing : Writing) → write_memory arguments memory ≡ Ok writing
     → fault_at memory 1 writing.address (length (take writing.count arguments.bytes)) ≡ None
@@ -138,7 +134,6 @@ module _ (now : Now) (terms : Terms) where
         (departed_same (is_to_end terms arguments) (is_to_stand terms arguments)) now.debuggee.program;
     pauses = λ _. same_of (marked mark.Pause) (λ p. marked_same p.run mark.Pause p) now.debuggee.program;
     stepped = λ c kind g. same_of (resumed g) (λ _. refl) now.debuggee.program ∙ steps_so c _ kind.kind;
-    absent = λ c about none. none_there _ (recorded_of now.debuggee.program) (ap recorded_of none);
     refused = λ c _ _ _. refused_same (gives_up (intent_of c)) (recorded_of now.debuggee.program);
     sets_none = λ c kind _ _ _ _ _. sets_so c _ kind.sets;
     sets_list = λ c kind _ _ list _ _ _ _. same_of (with_list c list) (listed_same c list) now.debuggee.program ∙ sets_so c _ kind.sets;
@@ -151,7 +146,7 @@ answer_counts : (now : Now) (terms : Terms) (file : Option (List ℕ)) (p : Pend
     → Counts now (asks_to_give_up p.ask) (answer_to now terms file p)
 answer_counts now terms file p =
     of_answer (λ ask a. Counts now (asks_to_give_up ask) a) now terms file p.ask p.fate (λ refusal _. refused_same _ _)
-    (λ r taken meets. by_success (given_of now) terms (λ c a. Counts now (gives_up (intent_of c)) a) (successes_count now terms) file r.command)
+    (λ r taken meets. by_success (given_of now) terms (λ c a. Counts now (gives_up (intent_of c)) a) (successes_count now terms) file r.command meets.loaded)
 
 -- ---- a turn
 

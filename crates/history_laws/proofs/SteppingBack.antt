@@ -280,7 +280,6 @@ module _ (from : Course) (now : Now) (terms : Terms) (h : OfProgram (StepsBack f
     leaves = λ arguments _. departs _ (leaves_by (is_to_end terms arguments) (is_to_stand terms arguments) from now.debuggee.program h);
     pauses = λ _ _. inr (on_steps (marked mark.Pause) now.debuggee.program from h (marked_steps mark.Pause no_pause from));
     stepped = λ c kind _ meets. no_still c kind.still meets;
-    absent = λ _ _ _ _. inr same;
     refused = λ _ _ _ _ _. inr same;
     sets_none = λ _ _ _ _ _ _ _ _. inr same;
     sets_list = λ c _ _ _ list _ _ _ _ _. inr
@@ -296,7 +295,7 @@ answer_steps : (from : Course) (now : Now) (terms : Terms) (file : Option (List 
 answer_steps from now terms file p h =
     of_answer (λ ask a. Comes from (name_asked ask) (asks_to_start_or_end ask) a) now terms file p.ask p.fate
     (λ refusal _. inr (still_steps from now.debuggee.program h))
-    (λ r taken meets. by_success (given_of now) terms (ComesTaken from now) (successes_step from now terms h) file r.command meets)
+    (λ r taken meets. by_success (given_of now) terms (ComesTaken from now) (successes_step from now terms h) file r.command meets.loaded meets)
 
 -- ---- an event
 

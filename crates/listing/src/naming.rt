@@ -111,7 +111,7 @@ fn push_json(
 }
 
 /// What stands at an address.
-#[derive(Clone, Copy, Debug, PartialEq, Eq)]
+#[derive(Clone, Copy, PartialEq, Eq)]
 pub(crate) enum Place {
     /// Code, of this line.
     Code(u32),

@@ -4,7 +4,7 @@ use Rattle.std.proofs.Common.{ℤ}
 use Rattle.breakpoints.specs.Stops.{Lists, Wanted}
 use Rattle.debuggee.specs.Programs.{Advances, GoesQuietly, Program, ended, entered, first_run, left, marked, marked_by, moved, restarted, resumed, stopped, told, with_functions, with_hart, with_instructions, with_source, written}
 use Rattle.debuggee.specs.declared.program.Advanced.{Advanced}
-use Rattle.debuggee.specs.declared.program.Advanced.TheVariants.{Spent, Owes, Meets, Lacks}
+use Rattle.debuggee.specs.declared.program.Advanced.TheVariants.{Spent, HasOutput, Stops, OutOfMemory}
 use Rattle.debuggee.specs.declared.run.Mark.{Mark}
 use Rattle.debuggee.specs.declared.run.Run.{Run}
 use Rattle.debuggee.specs.declared.run.Run.TheVariants.{Running, Stopped, Ended}
@@ -73,10 +73,10 @@ quietly_in_range (suc n) p q (middle, (goes, (plain, e))) h =
 
 pub advances_in_range : (most : ℕ) (p q : Program) (advanced : Advanced) → Advances most p advanced q → ProgramInRange p → ProgramInRange q
 advances_in_range most p q Spent goes h = quietly_in_range most p q goes h
-advances_in_range most p q (Owes n) (middle, k, (counts, (few, (goes, (stays, (tells, e)))))) h =
+advances_in_range most p q (HasOutput n) (middle, k, (counts, (few, (goes, (stays, (tells, e)))))) h =
     subst ProgramInRange (sym e) (moved_in_range middle (quietly_in_range k p middle goes h))
-advances_in_range most p q (Meets n tick) (few, (goes, rest)) h = quietly_in_range n p q goes h
-advances_in_range most p q (Lacks n) (few, (goes, needs)) h = quietly_in_range n p q goes h
+advances_in_range most p q (Stops n tick) (few, (goes, rest)) h = quietly_in_range n p q goes h
+advances_in_range most p q (OutOfMemory n) (few, (goes, needs)) h = quietly_in_range n p q goes h
 
 pub programs_move_in_range : ProgramsMoveInRange
 programs_move_in_range = record {

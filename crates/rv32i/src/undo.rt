@@ -31,7 +31,7 @@ pub struct Undo {
 }
 
 /// Where an instruction stores, and how many bytes.
-#[derive(Clone, Copy, Debug, PartialEq, Eq)]
+#[derive(Clone, Copy, PartialEq, Eq)]
 pub(crate) struct Place {
     pub address: u32,
     pub count: u8,

@@ -13,10 +13,5 @@ pub by_move : (P : Outcome → Beat → Type 0) (now : Now) (p : Program) (outco
     → P outcome (moves_by now p outcome)
 by_move P now p Went made traps ends = made Went refl
 by_move P now p (Stopped (met.Exception cause)) made traps ends = traps cause
-by_move P now p (Stopped met.Ebreak) made traps ends = made (Stopped met.Ebreak) refl
-by_move P now p (Stopped met.Source) made traps ends = made (Stopped met.Source) refl
-by_move P now p (Stopped met.Instruction) made traps ends = made (Stopped met.Instruction) refl
-by_move P now p (Stopped met.Function) made traps ends = made (Stopped met.Function) refl
-by_move P now p (Stopped met.Goal) made traps ends = made (Stopped met.Goal) refl
-by_move P now p (Stopped met.Start) made traps ends = made (Stopped met.Start) refl
+by_move P now p (Stopped other) made traps ends = made (Stopped other) refl
 by_move P now p (Ended code) made traps ends = ends code

@@ -1,44 +1,30 @@
 -- `enough` beats end each slice, in each world where what is done to the program is done, and telling a tick leaves what it concludes.
-use Rattle.session.proofs.Common.{[], after_beat, ap, arith, beat, Beat, beat_by, beat_of, beats, becomes, Bool, concluded, Ended, ending_of, ends, enough, entered, false, FULL, goes, goes_unless, is_at_limit, is_runnable_by, ltb, makes_move, Mark, moved, moves_by, nat_tests, next_beat, next_by, next_tick, None, not, Now, Option, Outcome, performed, Program, refl, runs, sliced, SliceEnd, Slicing, Some, stays, Stopped, stops, subst, suc, sym, telling, Tick, told, true, Went, why_marked, World, zero, ℕ, ◌*◌, ◌+◌, ◌-◌, ◌<◌, ◌∙◌, ◌∷◌, ◌≡◌, ◌≤◌}
-use Rattle.debuggee.specs.declared.run.Why.TheVariants as why
-use Rattle.session.specs.declared.event.SliceEnd.TheVariants as ending
+use Rattle.session.proofs.Common.{[], after_beat, ap, arith, Beat, beat_by, beat_of, beats, becomes, Bool, concluded, ending_of, enough, entered, false, FULL, goes, goes_unless, if_keeps, is_at_limit, is_runnable_by, ltb, makes_move, Mark, moved, moves_by, nat_tests, next_by, next_tick, None, not, Now, Option, Outcome, performed, Program, refl, sliced, SliceEnd, Slicing, Some, stays, suc, sym, telling, Tick, told, true, Went, World, zero, ℕ, ◌*◌, ◌+◌, ◌-◌, ◌<◌, ◌∙◌, ◌∷◌, ◌≡◌, ◌≤◌}
 use Rattle.session.proofs.Advancing.{move_leaves}
-use Rattle.session.proofs.Reaching.{if_keeps}
 use Rattle.session.proofs.ByMove.{by_move}
 
 -- ---- what is left of a slice: the moves, what is owed, and the check
 
-owed_rank : Option Tick → ℕ
+abbrev owed_rank : Option Tick → ℕ
 owed_rank None = 0
 owed_rank (Some tick) = 1
 
-due_rank : Bool → ℕ
+abbrev due_rank : Bool → ℕ
 due_rank true = 2
 due_rank false = 0
 
-rank_of : Option Program → ℕ
+abbrev rank_of : Option Program → ℕ
 rank_of None = 0
 rank_of (Some p) = owed_rank p.owed + due_rank p.machine.check_due
 
-rank : ℕ → ℕ → Option Program → ℕ
+abbrev rank : ℕ → ℕ → Option Program → ℕ
 rank n m program = 2 * (n - m) + rank_of program
 
 owed_few : (owed : Option Tick) → owed_rank owed ≤ 1
-unfolding owed_rank
-owed_few None = omega arith
-owed_few (Some tick) = omega arith
-
-due_few : (due : Bool) → due_rank due ≤ 2
-unfolding due_rank
-due_few true = omega arith
-due_few false = omega arith
+owed_few owed = grind arith
 
 few : (program : Option Program) → rank_of program ≤ 3
-unfolding rank_of
-few None = omega arith
-few (Some p) = let a = owed_few p.owed in let b = due_few p.machine.check_due in omega (arith, a, b)
-
--- ---- what is needed of a world
+few program = grind arith
 
 -- the program that is debugged
 abbrev pub program_in : {S : Type 0} → World S → S → Option Program
@@ -55,30 +41,23 @@ module _ {S : Type 0} (w : World S) (h : Follows w) where
   abbrev Falls : ℕ → ℕ → S → Option Program → Beat → Type 0
   Falls n m k program b = b.ending ≡ None → rank n (m + b.moved) (program_in w (after_beat w b k)) < rank n m program
 
+  went_on : (outcome : Outcome) → ending_of outcome ≡ None → outcome ≡ Went
+  went_on outcome e = grind arith
+
   tells_fall : (n m : ℕ) (s : S) (p : Program) (tick : Tick) → p.owed ≡ Some tick
       → Falls n m s (Some p) (record { acts = telling (w.see s).now p tick; moved = 0; ending = ending_of tick.outcome })
-  unfolding rank rank_of owed_rank
-  tells_fall n m s p tick owes on = by tick.outcome refl on where
-    by : (outcome : Outcome) → tick.outcome ≡ outcome → ending_of outcome ≡ None
-        → rank n (m + 0) (program_in w (after_beat w (record { acts = telling (w.see s).now p tick; moved = 0; ending = ending_of tick.outcome }) s)) < rank n m (Some p)
-    by (Stopped reason) e x = absurd (cc)
-    by (Ended code) e x = absurd (cc)
-    by Went e x =
-        let after : program_in w (performed w (telling (w.see s).now p tick) s) ≡ Some (told p) = h.tells s p tick ∙ ap
-        (λ (o : Outcome). let r : Option Program = Some (concluded o (told p)) in r) e in
-        let one : owed_rank p.owed ≡ 1 = ap owed_rank owes in
-        let goal : rank n (m + 0) (Some (told p)) < rank n m (Some p) = omega (arith, one) in
-        subst (λ (q : Option Program). rank n (m + 0) q < rank n m (Some p)) (sym after) goal
+  tells_fall n m s p tick owes on =
+      let after = h.tells s p tick in
+      let one : owed_rank p.owed ≡ 1 = ap owed_rank owes in
+      rw (after, went_on tick.outcome on) (omega (arith, one))
 
   -- a beat after which the program is this
   becomes_fall : (n m moved : ℕ) (s : S) (p q : Program) → rank n (m + moved) (Some q) < rank n m (Some p)
       → Falls n m s (Some p) (record { acts = becomes (w.see s).now q ∷ []; moved = moved; ending = None })
-  becomes_fall n m moved s p q less on =
-      subst (λ (r : Option Program). rank n (m + moved) r < rank n m (Some p)) (sym (h.becomes (w.see s).now q s)) less
+  becomes_fall n m moved s p q less on = rw (h.becomes (w.see s).now q s) less
 
   checks_fall : (n m : ℕ) (k : S) (p : Program) → p.machine.check_due ≡ true
       → Falls n m k (Some p) (record { acts = becomes (w.see k).now (entered p) ∷ []; moved = 0; ending = None })
-  unfolding rank rank_of due_rank
   checks_fall n m k p due =
       let two : due_rank p.machine.check_due ≡ 2 = ap due_rank due in
       let few = owed_few (entered p).owed in
@@ -86,7 +65,6 @@ module _ {S : Type 0} (w : World S) (h : Follows w) where
 
   makes_fall : (n m : ℕ) (k : S) (p : Program) → p.machine.check_due ≡ false → m < n → stays (next_tick p).outcome ≡ false
       → Falls n m k (Some p) (makes_move (w.see k).now p)
-  unfolding rank rank_of due_rank
   makes_fall n m k p due lt e =
       let none : due_rank (moved p).machine.check_due ≡ 0 = ap due_rank ((move_leaves p due e).due ∙ due) in
       let few = owed_few (moved p).owed in
@@ -98,40 +76,27 @@ module _ {S : Type 0} (w : World S) (h : Follows w) where
       by_move (λ o b. (next_tick p).outcome ≡ o → Falls n m k (Some p) b) (w.see k).now p outcome
       (λ o goes e. makes_fall n m k p due lt (ap stays e ∙ goes)) (λ _ _ x. absurd (cc)) (λ _ _ x. absurd (cc)) e
 
-  ends_fall : (n m : ℕ) (k : S) (program : Option Program) (b : Beat) (e : SliceEnd) → b.ending ≡ Some e → Falls n m k program b
-  ends_fall n m k program b e h x = absurd (cc)
-
   goes_fall : (n m : ℕ) (k : S) (p : Program) → Falls n m k (Some p) (goes (w.see k).now p (ltb m n))
   goes_fall n m k p =
       if_keeps (Falls n m k (Some p)) p.machine.check_due _ _ (λ due. checks_fall n m k p due)
-      (λ due. if_keeps (Falls n m k (Some p)) (not (ltb m n)) _ _ (λ _. ends_fall n m k (Some p) (ends ending.Spent) ending.Spent refl)
-      (λ more. if_keeps (Falls n m k (Some p)) (is_at_limit (w.see k).now p) _ _
-      (λ _. ends_fall n m k (Some p) (stops (w.see k).now p why.Limit) ending.Stopped refl)
+      (λ due. if_keeps (Falls n m k (Some p)) (not (ltb m n)) _ _ (λ _ on. absurd (cc))
+      (λ more. if_keeps (Falls n m k (Some p)) (is_at_limit (w.see k).now p) _ _ (λ _ on. absurd (cc))
       (λ _. moves_fall n m k p (next_tick p).outcome refl due (let lt : m < n = grind (arith, nat_tests) in lt))))
 
   unless_falls : (n m : ℕ) (k : S) (p : Program) (mark : Option Mark) → Falls n m k (Some p) (goes_unless mark (w.see k).now p (ltb m n))
-  unless_falls n m k p (Some mark) = ends_fall n m k (Some p) (stops (w.see k).now p (why_marked mark)) ending.Stopped refl
-  unless_falls n m k p None = goes_fall n m k p
-
-  runs_fall : (n m : ℕ) (k : S) (p : Program) → Falls n m k (Some p) (runs (w.see k) p (ltb m n))
-  runs_fall n m k p =
-      if_keeps (Falls n m k (Some p)) (not (is_runnable_by (w.see k).now.link p.run)) _ _
-      (λ _. ends_fall n m k (Some p) (ends ending.Idle) ending.Idle refl)
-      (λ _. if_keeps (Falls n m k (Some p)) (ltb FULL (w.see k).waits) _ _
-      (λ _. ends_fall n m k (Some p) (ends ending.Full) ending.Full refl)
-      (λ _. unless_falls n m k p p.mark))
+  unless_falls n m k p (Some mark) on = absurd (cc)
+  unless_falls n m k p None on = goes_fall n m k p on
 
   owed_falls : (n m : ℕ) (k : S) (p : Program) (owed : Option Tick) → p.owed ≡ owed
       → Falls n m k (Some p) (beat_by owed (w.see k) p (ltb m n))
   owed_falls n m k p (Some tick) e = tells_fall n m k p tick e
-  owed_falls n m k p None e = runs_fall n m k p
+  owed_falls n m k p None e =
+      if_keeps (Falls n m k (Some p)) (not (is_runnable_by (w.see k).now.link p.run)) _ _ (λ _ on. absurd (cc))
+      (λ _. if_keeps (Falls n m k (Some p)) (ltb FULL (w.see k).waits) _ _ (λ _ on. absurd (cc)) (λ _. unless_falls n m k p p.mark))
 
-  program_falls : (n m : ℕ) (k : S) (program : Option Program) → Falls n m k program (beat_of program (w.see k) (ltb m n))
-  program_falls n m k None = ends_fall n m k None (ends ending.Idle) ending.Idle refl
-  program_falls n m k (Some p) = owed_falls n m k p p.owed refl
-
-  beat_falls : (n m : ℕ) (k : S) → Falls n m k (program_in w k) (beat (w.see k) (ltb m n))
-  beat_falls n m k = program_falls n m k (program_in w k)
+  beat_falls : (n m : ℕ) (k : S) (program : Option Program) → Falls n m k program (beat_of program (w.see k) (ltb m n))
+  beat_falls n m k None on = absurd (cc)
+  beat_falls n m k (Some p) on = owed_falls n m k p p.owed refl on
 
   -- ---- so each slice has ended after enough
 
@@ -140,14 +105,13 @@ module _ {S : Type 0} (w : World S) (h : Follows w) where
 
   next_lowers : (n i : ℕ) (s : S) (d : Slicing S) (e : Option SliceEnd) → d.ending ≡ e → Lowered n i s d
       → Lowered n (suc i) s (next_by w n e d)
-  next_lowers n i s d (Some e) is h on = absurd (let never : Some e ≡ None = sym is ∙ on in cc)
+  next_lowers n i s d (Some e) is h on = absurd (cc)
   next_lowers n i s d None is h on =
-      let less = beat_falls n d.moved d.state on in
+      let less = beat_falls n d.moved d.state (program_in w d.state) on in
       let before = h is in
       omega (arith, less, before)
 
   lowered : (n i : ℕ) (s : S) → Lowered n i s (beats w n i s)
-  unfolding rank
   lowered n zero s on = let a = few (program_in w s) in omega (arith, a)
   lowered n (suc i) s on = next_lowers n i s (beats w n i s) (beats w n i s).ending refl (lowered n i s) on
 
@@ -161,12 +125,10 @@ module _ {S : Type 0} (w : World S) (h : Follows w) where
   -- ---- and stays so
 
   pub stays_ended : (n i more : ℕ) (s : S) (e : SliceEnd) → (beats w n i s).ending ≡ Some e → beats w n (i + more) s ≡ beats w n i s
-  stays_ended n i zero s e h = let none : i + zero ≡ i = omega arith in ap (λ (x : ℕ). beats w n x s) none
+  stays_ended n i zero s e h = let none : i + zero ≡ i = omega arith in rw none
   stays_ended n i (suc more) s e h =
       let one : i + suc more ≡ suc (i + more) = omega arith in
-      ap (λ (x : ℕ). beats w n x s) one
-      ∙ ap (next_beat w n) (stays_ended n i more s e h)
-      ∙ ap (λ (x : Option SliceEnd). next_by w n x (beats w n i s)) h
+      rw (one, stays_ended n i more s e h, h)
 
   pub is_sliced : (n i : ℕ) (s : S) (e : SliceEnd) → (beats w n i s).ending ≡ Some e → beats w n i s ≡ sliced w n s
   is_sliced n i s e h =
@@ -179,5 +141,4 @@ module _ {S : Type 0} (w : World S) (h : Follows w) where
       let there = each_ends n s in
       let sum : i ≡ enough n + (i - enough n) = omega (arith, le) in
       let same = ap (λ (x : ℕ). beats w n x s) sum ∙ stays_ended n (enough n) (i - enough n) s there.0 there.1 in
-      let never : Some there.0 ≡ None = sym there.1 ∙ sym (ap (λ (d : Slicing S). d.ending) same) ∙ on in
-      cc
+      cc (same, there.1, on)

@@ -1,6 +1,6 @@
 -- What `Goes` says of what is kept, `Happens` says of each session that it represents.
 use Rattle.session.proofs.Common.{answer, Applied, effect, Ends, EndsWell, Err, Event, EventError, Goes, Happens, histories, keepings, Kept, kept_of, moves_asked, None, Ok, Option, ran_out, Result, Session, Some, Stands, subst, sym, ℕ, ◌∙◌, ◌≡◌}
-use Rattle.session.specs.declared.event.EventError.TheVariants.{NotConnected, AlreadyConnected, Busy, SentTooMuch, PieceTooLong, Closing, NoMemory, Spent}
+use Rattle.session.specs.declared.event.EventError.TheVariants.{NoMemory}
 use Rattle.session.proofs.Standing.{answer_kept, breaks_kept, effect_kept}
 
 module _ (e : Event) (new : Kept) (s : Session) where
@@ -16,13 +16,7 @@ module _ (e : Event) (new : Kept) (s : Session) where
   ends : (result : Result Applied EventError) → Goes (kept_of s) e result new → Ends histories s e result (λ t. Stands new t)
   ends (Ok x) h = ends_well x (ran_out x) h
   ends (Err NoMemory) h = h
-  ends (Err NotConnected) h = ended (Err NotConnected) h
-  ends (Err AlreadyConnected) h = ended (Err AlreadyConnected) h
-  ends (Err Busy) h = ended (Err Busy) h
-  ends (Err SentTooMuch) h = ended (Err SentTooMuch) h
-  ends (Err PieceTooLong) h = ended (Err PieceTooLong) h
-  ends (Err Closing) h = ended (Err Closing) h
-  ends (Err Spent) h = ended (Err Spent) h
+  ends (Err other) h = ended (Err other) h
 
 pub happening : (old : Kept) (e : Event) (result : Result Applied EventError) (new : Kept) → Goes old e result new
     → Happens old e result new

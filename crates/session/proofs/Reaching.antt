@@ -1,12 +1,8 @@
 -- What holds at the start, and is kept by each event and by each cut slice, holds of whatever is reached; and what each act keeps, these do.
-use Rattle.session.proofs.Common.{[], Act, after_all, All, beat, beats, Beginning, Bool, cond, Connect, DropConnection, Effect, enough, Event, false, get_or, histories, Hold, Life, life_of, List, lives, ltb, map, next_by, no_life, None, Option, outcome, performed, performed_on, Recv, refl, Sent, Session, Slice, SliceEnd, Some, start, suc, true, Turn, zero, ℕ, ◌++◌, ◌∷◌, ◌≡◌}
+use Rattle.session.proofs.Common.{[], Act, after_all, All, beat, beats, Beginning, Effect, enough, Event, get_or, histories, Life, life_of, List, lives, ltb, map, next_by, no_life, None, Option, outcome, performed, performed_on, refl, Session, Slice, SliceEnd, Slicing, Some, start, suc, zero, ℕ, ◌++◌, ◌∷◌, ◌≡◌}
 use Rattle.std.proofs.lemmas.List.Elements.{All-push, All-head, All-tail}
+pub use Rattle.session.proofs.Common.{if_keeps}
 use Rattle.session.specs.Reached.{Happened, Whole, Cut, Reached, leaves, led_to}
-
--- what holds of either choice holds of the one that is made
-pub if_keeps : {A : Type 0} (P : A → Type 0) (b : Bool) (x y : A) → (b ≡ true → P x) → (b ≡ false → P y) → P (cond b x y)
-if_keeps P true x y f g = f refl
-if_keeps P false x y f g = g refl
 
 module _ (P : Session → Type 0) (by_event : (e : Event) (s : Session) → P s → P (Effect s e))
     (by_beats : (n count : ℕ) (s : Session) → P s → P (beats histories n count s).state) where
@@ -46,23 +42,17 @@ module _ (P : Session → Type 0) (k : KeptByActs P) where
   acts_keep [] s h = h
   acts_keep (act ∷ acts) s h = acts_keep acts (performed_on act s) (k act s h)
 
+  next_keeps : (n : ℕ) (e : Option SliceEnd) (d : Slicing Session) → P d.state → P (next_by histories n e d).state
+  next_keeps n (Some e) d h = h
+  next_keeps n None d h = acts_keep (beat (histories.see d.state) (ltb d.moved n)).acts d.state h
+
   beats_keep : (n i : ℕ) (s : Session) → P s → P (beats histories n i s).state
   beats_keep n zero s h = h
-  beats_keep n (suc i) s h = by (beats histories n i s).ending (beats_keep n i s h) where
-    by : (e : Option SliceEnd) → P (beats histories n i s).state → P (next_by histories n e (beats histories n i s)).state
-    by (Some e) x = x
-    by None x =
-        acts_keep (beat (histories.see (beats histories n i s).state) (ltb (beats histories n i s).moved n)).acts
-        (beats histories n i s).state x
+  beats_keep n (suc i) s h = next_keeps n (beats histories n i s).ending (beats histories n i s) (beats_keep n i s h)
 
   pub event_keeps : (e : Event) (s : Session) → P s → P (Effect s e)
-  event_keeps Connect s h = acts_keep (outcome (histories.see s) Connect).acts s h
-  event_keeps (Recv piece) s h = acts_keep (outcome (histories.see s) (Recv piece)).acts s h
-  event_keeps (Turn file) s h = acts_keep (outcome (histories.see s) (Turn file)).acts s h
   event_keeps (Slice n) s h = beats_keep n (enough n) s h
-  event_keeps Hold s h = acts_keep (outcome (histories.see s) Hold).acts s h
-  event_keeps (Sent n) s h = acts_keep (outcome (histories.see s) (Sent n)).acts s h
-  event_keeps DropConnection s h = acts_keep (outcome (histories.see s) DropConnection).acts s h
+  event_keeps other s h = acts_keep (outcome (histories.see s) other).acts s h
 
   pub reached_by_acts : (from : Beginning) → P (start from) → (happened : List Happened) → P (Reached from happened)
   reached_by_acts from h happened = reached P event_keeps beats_keep from h happened

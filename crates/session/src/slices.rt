@@ -11,7 +11,7 @@ ghost use Rattle.session.specs.Slices as spec;
 ghost use Rattle.session.specs.Slices.{IsFree, logged, printed_events};
 ghost use Rattle.stepping.specs.Goals.{turns_back};
 ghost use Rattle.handlers.specs.Telling.{exit_events, log_event, output_event, stop_event};
-ghost use Rattle.session.specs.Private.Beats.{moves_of, outcome_events, Decides, Moved, Stretches, after_made, concluded, owed_of, queued_with, tick_events};
+ghost use Rattle.session.specs.Private.Beats.{outcome_events, Decides, Moved, Stretches, after_made, concluded, owed_of, queued_with, tick_events};
 
 use crate::draft::Draft;
 use crate::event::{SliceEnd, Sliced};
@@ -20,7 +20,7 @@ use crate::state::{FULL, State};
 use debuggee::{Advanced, Program, Run, Why};
 use handlers::telling;
 use replies::Event;
-use std::alloc::AllocError;
+use std::alloc::{AllocError, Global};
 use stepping::{Outcome, Runner, Tick};
 
 /// What some beats of a slice did.
@@ -41,34 +41,6 @@ impl Step {
             ending: Some(ending),
         }
     }
-}
-
-/// Moves that leave nothing to tell, except perhaps the last.
-#[derive(Clone, Copy, Debug, PartialEq, Eq)]
-pub struct Moves {
-    /// How many were made.
-    pub moved: u32,
-    /// What is known of the next one.
-    pub ahead: Ahead,
-}
-
-impl Moves {
-    fn before(moved: u32, ahead: Ahead) -> Moves
-        ensures { result ≡ record { moved = moved; ahead = ahead } }
-    {
-        Moves { moved, ahead }
-    }
-}
-
-/// What is known of the move that comes next, after some were made.
-#[derive(Clone, Copy, Debug, PartialEq, Eq)]
-pub enum Ahead {
-    /// Nothing.
-    Open,
-    /// It traps or ends the program, and would answer this.
-    Meets(Tick),
-    /// No memory was left for it: for a page of zeros into which it stores, or such a store that it undoes.
-    Lacks,
 }
 
 /// What is made of a program as the editor is told of it.
@@ -105,7 +77,7 @@ impl State {
     {
         let mut moved = 0;
         for _ in 0..2 * u64::from(moves) + 4 {
-            let step = self.stretch(moves - moved);
+            let step = self.go_on(moves - moved);
             moved += step.moved;
             if let Some(ending) = step.ending {
                 return Sliced { moved, ending };
@@ -118,7 +90,7 @@ impl State {
     }
 
     // Some beats of a slice that has `left` moves to make: as many as have nothing to tell, or one other.
-    fn stretch(&mut self, left: u32) -> Step
+    fn go_on(&mut self, left: u32) -> Step
         ensures few { result.moved ≤ left }
         ensures stretches { (moved : ℕ) → Stretches (moved + left) moved self.old result self.new }
     {
@@ -227,38 +199,39 @@ impl State {
     }
 
     // The program makes moves, at most `left`, until there is something to tell or no memory is left for one.
-    #[tactic(auto, using(crate::proofs::Advancing::moves_stretch, crate::proofs::Advancing::moves_then, crate::proofs::Advancing::moves_lack, crate::proofs::Advancing::is_before))]
+    #[tactic(auto, using(crate::proofs::Advancing::moves_all, crate::proofs::Advancing::moves_some, crate::proofs::Advancing::moves_then, crate::proofs::Advancing::moves_lack, crate::proofs::Advancing::is_before))]
     fn step_advancing(&mut self, left: u32) -> Step
         requires free { (p : AProgram) × IsFree p (keepings.see self.old) }
         requires some { 0 < left }
         ensures moved { result.moved ≤ left }
         ensures stretches { (moved : ℕ) → Stretches (moved + left) moved self.old result self.new }
     {
-        let moves = self.advance(left);
-        match moves.ahead {
-            Ahead::Open => Step {
-                moved: moves.moved,
+        let (most, advanced) = self.advance(left);
+        match advanced {
+            Advanced::Spent => Step {
+                moved: most,
                 ending: None,
             },
-            Ahead::Meets(tick) => {
+            Advanced::HasOutput(moved) => Step {
+                moved,
+                ending: None,
+            },
+            Advanced::Stops(moved, tick) => {
                 let ending = self.meet(tick);
-                Step {
-                    moved: moves.moved,
-                    ending,
-                }
+                Step { moved, ending }
             }
-            Ahead::Lacks => Step {
-                moved: moves.moved,
+            Advanced::OutOfMemory(moved) => Step {
+                moved,
                 ending: Some(SliceEnd::NoMemory),
             },
         }
     }
 
-    // The moves that leave nothing to tell, and then one that does, if one comes.
-    fn advance(&mut self, left: u32) -> Moves
+    // The program is asked for moves: how many, at most `left`, and how it made them.
+    fn advance(&mut self, left: u32) -> (u32, Advanced)
         requires free { (p : AProgram) × IsFree p (keepings.see self.old) }
         requires some { 0 < left }
-        ensures { Moved left self.old result self.new }
+        ensures { Moved left self.old result.0 result.1 self.new }
     {
         let last = self.limits.last_retired;
         let Some(program) = &mut self.program else {
@@ -266,7 +239,7 @@ impl State {
         };
         let most = most_of(last, program.machine(), left);
         let advanced = program.advance(most);
-        moves_of(most, advanced)
+        (most, advanced)
     }
 
     // The instruction that comes next traps, or ends the program: that is made and told.
@@ -403,23 +376,18 @@ impl State {
         Ok(())
     }
 
-    // Adds the events of what a tick came to.
+    // Adds the events of what a tick came to, with the breakpoints that it hit.
     fn add_outcome(&self, draft: &mut Draft, outcome: Outcome) -> Result<(), AllocError>
         ensures { OnOk result ((p : AProgram) → self.now.now.debuggee.program ≡ Some p
             → draft.new ≡ drafted_all self.now.now.limits
             (outcome_events outcome p.machine.lists.ids) draft.old) }
     {
-        match outcome {
-            Outcome::Went => Ok(()),
-            Outcome::Stopped(reason) => match &self.program {
-                Some(program) => {
-                    let ids = program.machine().breaks().ids();
-                    let event = telling::stop_event(self.alloc, Why::Met(reason), ids)?;
-                    draft.add_event(self.limits, event)
-                }
-                None => Ok(()),
-            },
-            Outcome::Ended(code) => add_exit(draft, self.limits, code),
+        match &self.program {
+            Some(program) => {
+                let ids = program.machine().breaks().ids();
+                add_outcome_at(draft, self.alloc, self.limits, outcome, ids)
+            }
+            None => Ok(()),
         }
     }
 
@@ -474,19 +442,33 @@ impl State {
         if !self.is_told() {
             return Ok(draft);
         }
-        match outcome {
-            Outcome::Went => {}
-            Outcome::Stopped(reason) => {
-                let event = telling::stop_event(self.alloc, Why::Met(reason), &[])?;
-                draft.add_event(self.limits, event)?;
-            }
-            Outcome::Ended(code) => add_exit(&mut draft, self.limits, code)?,
-        }
+        add_outcome_at(&mut draft, self.alloc, self.limits, outcome, &[])?;
         Ok(draft)
     }
 }
 
-// The end of the program, written.
+// Adds the events of what a tick came to, where it hit the breakpoints with these ids.
+fn add_outcome_at(
+    draft: &mut Draft,
+    alloc: Global,
+    limits: Limits,
+    outcome: Outcome,
+    ids: &[u32],
+) -> Result<(), AllocError>
+    ensures { OnOk result (draft.new
+        ≡ drafted_all limits (outcome_events outcome ids.now) draft.old) }
+{
+    match outcome {
+        Outcome::Went => Ok(()),
+        Outcome::Stopped(reason) => {
+            let event = telling::stop_event(alloc, Why::Met(reason), ids)?;
+            draft.add_event(limits, event)
+        }
+        Outcome::Ended(code) => add_exit(draft, limits, code),
+    }
+}
+
+// Adds the end of the program.
 fn add_exit(draft: &mut Draft, limits: Limits, code: i32) -> Result<(), AllocError>
     ensures { OnOk result (draft.new ≡ drafted_all limits (exit_events code) draft.old) }
 {
@@ -511,18 +493,6 @@ fn most_of(last: u64, machine: &Runner, left: u32) -> u32
         few as u32
     } else {
         left
-    }
-}
-
-// The moves that were made, of at most `most`, and what is known of the next one.
-fn moves_of(most: u32, advanced: Advanced) -> Moves
-    ensures { result ≡ moves_of most advanced }
-{
-    match advanced {
-        Advanced::Spent => Moves::before(most, Ahead::Open),
-        Advanced::Owes(moved) => Moves::before(moved, Ahead::Open),
-        Advanced::Meets(moved, tick) => Moves::before(moved, Ahead::Meets(tick)),
-        Advanced::Lacks(moved) => Moves::before(moved, Ahead::Lacks),
     }
 }
 

@@ -1,5 +1,5 @@
 -- What is kept where an act does something is kept by acts.
-use Rattle.session_laws.proofs.Common.{[], Accept, accepted_on, accepting, Agree, agreed_on, Answering, Become, Call, Close, Debuggee, Event as IsEvent, false, HangUp, hung_on, if_keeps, KeptByActs, Link, List, ltb, ltb-true, Message, None, Open, opened_on, Option, past_referred, Pending, performed_on, Refer, referred_on, refers, Replied as Outcome, replied_on, Reply, Response, response_to, said_on, saying, Session, Some, Take, Tell, Terms, Told as Event, ℕ, ◌<◌, ◌∷◌, ◌≡◌}
+use Rattle.session_laws.proofs.Common.{[], Accept, accepted_on, accepting, Agree, agreed_on, Answering, Become, Bool, Call, Close, closing, Debuggee, Event as IsEvent, false, HangUp, histories, hung_on, if_keeps, KeptByActs, Link, List, ltb, ltb-true, map, Message, None, Open, opened_on, Option, past_referred, Pending, performed, performed_append, performed_on, Refer, referred_on, refers, Replied as Outcome, replied_on, Reply, Response, response_to, said_on, saying, Session, Some, Take, Tell, Terms, Told as Event, true, ℕ, ◌++◌, ◌<◌, ◌∷◌, ◌≡◌}
 
 -- a session once an answer's change is made and its references are issued, before it is queued
 abbrev pub with_change : Answering → Session → Session
@@ -68,6 +68,16 @@ module _ (P : Session → Type 0) where
       → P (hung_on l (on l s))
   hangs_by None s f h = h
   hangs_by (Some l) s f h = f l h
+
+-- what is kept where the connection takes nothing more is so after an answer, if it is so once all is told
+pub after_answer : (P : Session → Type 0) → ((l : Link) (s : Session) → P (on (Some l) s) → P (performed_on HangUp (on (Some l) s)))
+    → (events : List Event) (closes : Bool) (s : Session) → P (performed histories (map Tell events) s)
+    → P (performed histories (map Tell events ++ closing closes) s)
+after_answer P hangs events closes s h =
+    let t = performed histories (map Tell events) s in
+    rw (performed_append (map Tell events) (closing closes) s)
+    (elim closes as (λ closes. P (performed histories (closing closes) t))
+    [ true ↦ hangs_by P t.now.link t (λ l x. hangs l t x) h | false ↦ h ])
 
 module _ (P : Session → Type 0) (k : KeptByOthers P) (says : KeptByAnswers P) where
   replies_by : (l : Option Link) (pending : List Pending) (outcome : Outcome) (s : Session) → P (on_with l pending s)

@@ -1,10 +1,9 @@
--- A beat and an event in the cases that they come to: what holds of each case holds of the beat, or of what the event does.
-use Rattle.session_laws.proofs.Common.{[], Accept, AnEvent as Event, ap, arith, Beat, beat_by, beat_of, becomes, Bool, by_move, cond, Connect, Connected, DidSend, done, DropConnection, Dropped, Effect, Ended, ending_of, ends, entered, eqb, EventError, exits, false, FULL, goes_unless, Held, histories, Hold, holding, if_keeps, is_at_limit, is_runnable_by, LAST_CONNECTION, leaving, leb, length, Link, List, ltb, makes_move, Mark, MOST_PENDING, MOST_PIECE, moves_by, next_tick, None, not, Now, Open, Option, Outcome, outcome_at, performed, Program, Received, Recv, refl, refused, Seen, Sent, Session, Slice, sliced, SliceEnd, Some, stays, Stopped, stops, Take, telling, Tick, true, Turn, turns_back, Why, why_marked, ℕ, ℤ, ◌&&◌, ◌+◌, ◌∙◌, ◌∷◌, ◌≡◌}
+-- A beat, a turn and an event in the cases that they come to: what holds of each case holds of the beat, or of what the others do.
+use Rattle.session_laws.proofs.Common.{[], Accept, Act, AnEvent as Event, answer_to, answering, answers_next, ap, arith, Beat, beat, beat_by, beat_of, beats, becomes, Bool, by_move, cond, Connect, Connected, DidSend, done, DropConnection, Dropped, Effect, Ended, ending_of, ends, entered, eqb, EventError, Exception, exits, false, from_here, FULL, goes_unless, Held, histories, Hold, holding, if_keeps, is_at_limit, is_runnable_by, is_running, LAST_CONNECTION, leaving, leb, length, Limit, Link, List, ltb, makes_move, Mark, Met, MOST_PENDING, MOST_PIECE, moves_by, next_by, next_tick, next_turn, None, not, Now, Open, Option, Outcome, outcome_at, Pending, performed, Program, Received, Recv, refl, refused, Seen, Sent, Session, Slice, sliced, SliceEnd, Slicing, Some, stays, Stopped, stops, subst, suc, sym, Take, telling, Tick, true, Turn, turn_by, turn_of, turns_back, Why, why_marked, with_beat, zero, ℕ, ℤ, ⊤, ◌&&◌, ◌+◌, ◌∙◌, ◌∷◌, ◌≡◌}
 use Rattle.debuggee.specs.declared.run.Mark.TheVariants as mark
-use Rattle.debuggee.specs.declared.run.Why.TheVariants as why
 use Rattle.session.specs.declared.event.EventError.TheVariants as error
 use Rattle.session.specs.declared.event.SliceEnd.TheVariants as ending
-use Rattle.stepping.specs.declared.tick.Reason.TheVariants as met
+use Rattle.session_laws.proofs.ByForms.{on, on_with}
 
 -- ---- a beat
 
@@ -27,8 +26,8 @@ EndsFor seen p more other = ⊥
 
 -- why the program stops: it is marked; it is at its limit, which one that goes back has not; or its next move meets something, and is not made
 abbrev pub StopsFor : Program → Why → Type 0
-StopsFor p why.Limit = turns_back p.machine.goal ≡ false
-StopsFor p (why.Met reason) =
+StopsFor p Limit = turns_back p.machine.goal ≡ false
+StopsFor p (Met reason) =
     (p.machine.check_due ≡ false) × ((next_tick p).outcome ≡ Stopped reason) × (stays (Stopped reason) ≡ true)
 StopsFor p w = (m : Mark) × (p.mark ≡ Some m) × (why_marked m ≡ w)
 
@@ -53,12 +52,12 @@ pub record ByBeat (seen : Seen) (p : Program) (more : Bool) (P : Beat → Type 0
 
 module _ (seen : Seen) (p : Program) (more : Bool) (P : Beat → Type 0) (h : ByBeat seen p more P) (owes : p.owed ≡ None) where
   moving : p.mark ≡ None → p.machine.check_due ≡ false → (m : Bool) → more ≡ m
-      → P (cond (not m) (ends ending.Spent) (cond (is_at_limit seen.now p) (stops seen.now p why.Limit) (moves_by seen.now p (next_tick p).outcome)))
+      → P (cond (not m) (ends ending.Spent) (cond (is_at_limit seen.now p) (stops seen.now p Limit) (moves_by seen.now p (next_tick p).outcome)))
   moving free due true is =
-      if_keeps P (is_at_limit seen.now p) _ _ (λ full. h.stops_for why.Limit owes (has_limit (turns_back p.machine.goal) _ full))
+      if_keeps P (is_at_limit seen.now p) _ _ (λ full. h.stops_for Limit owes (has_limit (turns_back p.machine.goal) _ full))
       (λ _. by_move (λ o b. (next_tick p).outcome ≡ o → P b) seen.now p (next_tick p).outcome
       (λ o stay e. h.moves owes free due is (ap stays e ∙ stay))
-      (λ cause e. h.stops_for (why.Met (met.Exception cause)) owes (due, e, refl)) (λ code e. h.exits_with code owes due e) refl)
+      (λ cause e. h.stops_for (Met (Exception cause)) owes (due, e, refl)) (λ code e. h.exits_with code owes due e) refl)
   moving free due false is = h.ends_for ending.Spent owes is
 
   unless : (m : Option Mark) → p.mark ≡ m → P (goes_unless m seen.now p more)
@@ -79,6 +78,66 @@ pub by_beat : (program : Option Program) (seen : Seen) (more : Bool) (P : Beat �
     → ((p : Program) → program ≡ Some p → ByBeat seen p more P) → P (beat_of program seen more)
 by_beat None seen more P none some = none refl
 by_beat (Some p) seen more P none some = by_program seen p more P (some p refl)
+
+-- where it is idle if the program does not run: what is looked at is a program that runs, unless it owes something
+pub by_running : (seen : Seen) (p : Program) (more : Bool) (P : Beat → Type 0) → P (ends ending.Idle)
+    → ((p.owed ≡ None → is_running p.run ≡ true) → ByBeat seen p more P) → P (beat_by p.owed seen p more)
+by_running seen p more P idle some = by p.owed (is_running p.run) refl refl where
+  by : (owed : Option Tick) (runs : Bool) → p.owed ≡ owed → is_running p.run ≡ runs → P (beat_by p.owed seen p more)
+  by None false owes rests = let e : beat_by p.owed seen p more ≡ ends ending.Idle = grind arith in subst P (sym e) idle
+  by (Some tick) false owes rests = by_program seen p more P (some (λ none. let no : None ≡ Some tick = sym none ∙ owes in cc))
+  by owed true owes runs = by_program seen p more P (some (λ _. runs))
+
+-- what each beat of a slice of n moves keeps, each number of its beats keeps
+pub by_slicing : (n : ℕ) (P : Slicing Session → Type 0)
+    → ((d : Slicing Session) → d.ending ≡ None → P d → P (with_beat histories (beat (histories.see d.state) (ltb d.moved n)) d))
+    → (i : ℕ) (s : Session) → P (from_here s) → P (beats histories n i s)
+by_slicing n P keeps zero s h = h
+by_slicing n P keeps (suc i) s h = by (beats histories n i s) (beats histories n i s).ending refl (by_slicing n P keeps i s h) where
+  by : (d : Slicing Session) (e : Option SliceEnd) → d.ending ≡ e → P d → P (next_by histories n e d)
+  by d (Some e) is x = x
+  by d None is x = keeps d is x
+
+pub by_beats : (P : Session → Type 0) → ((s : Session) (more : Bool) → P s → P (performed histories (beat (histories.see s) more).acts s))
+    → (n i : ℕ) (s : Session) → P s → P (beats histories n i s).state
+by_beats P keeps n i s h = by_slicing n (λ d. P d.state) (λ d _ x. keeps d.state (ltb d.moved n) x) i s h
+
+-- ---- a turn
+
+-- a program that owes nothing, if there is one
+abbrev pub OwesNothing : Option Program → Type 0
+OwesNothing None = ⊤
+OwesNothing (Some p) = p.owed ≡ None
+
+-- What has to be shown of the acts of a turn: there are none, it tells what is owed, or answers the first request that waits.
+pub record EachTurn (file : Option (List ℕ)) (R : Session → List Act → Type 0) : Type 0 where
+  pub nothing : (s : Session) → R s []
+  pub tells : (l : Link) (p : Program) (tick : Tick) (s : Session) → s.now.debuggee.program ≡ Some p → p.owed ≡ Some tick → let t =
+      on (Some l) s in R t (telling t.now p tick)
+  pub answers : (l : Link) (p : Pending) (rest : List Pending) (s : Session) → OwesNothing s.now.debuggee.program → let t =
+      on_with (Some l) (p ∷ rest) s in R t (answering (answer_to t.now l.terms file p))
+
+module _ (file : Option (List ℕ)) (R : Session → List Act → Type 0) (k : EachTurn file R) where
+  each_answer : (l : Link) (s : Session) → OwesNothing s.now.debuggee.program → let t = on (Some l) s in
+      R t (answers_next (histories.see t) l file).acts
+  each_answer l s none =
+      if_keeps (λ (o : Outcome). R (on (Some l) s) o.acts) (ltb FULL (length s.waiting)) _ _ (λ _. k.nothing (on (Some l) s))
+      (λ _. by s.now.arrivals.pending) where
+        by : (pending : List Pending) → let t = on_with (Some l) pending s in R t (next_turn t.now l.terms file pending).acts
+        by [] = k.nothing (on_with (Some l) [] s)
+        by (p ∷ rest) = k.answers l p rest s none
+
+  each_program : (l : Link) (program : Option Program) (s : Session) → s.now.debuggee.program ≡ program → let t = on (Some l) s in
+      R t (turn_of program (histories.see t) l file).acts
+  each_program l None s is = each_answer l s (subst OwesNothing (sym is) tt)
+  each_program l (Some p) s is = by p.owed refl where
+    by : (owed : Option Tick) → p.owed ≡ owed → R (on (Some l) s) (turn_by owed (histories.see (on (Some l) s)) l p file).acts
+    by None owes = each_answer l s (subst OwesNothing (sym is) owes)
+    by (Some tick) owes = k.tells l p tick s is owes
+
+  pub each_turn : (l : Option Link) (s : Session) → R (on l s) (outcome_at (histories.see (on l s)) l (Turn file)).acts
+  each_turn None s = k.nothing (on None s)
+  each_turn (Some l) s = each_program l s.now.debuggee.program s refl
 
 -- ---- an event
 

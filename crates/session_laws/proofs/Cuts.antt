@@ -1,6 +1,5 @@
 -- Wherever what an editor sends is cut, the session takes the same of it.
-use Rattle.session_laws.proofs.Common.{[], Accept, accepted_on, accepting, all_joined, Answer, ap, append_assoc, arith, Arrivals, Ask, asks_of, Beginning, BODY_LIMIT, Bool, Busy, Closing, cond, CutsDoNotMatter, done, Effect, Err, false, fault_of_reading, FaultIsOfTheBytes, Happened, histories, inl, inr, is_some, IsTaken, joined, leb, length, Link, List, ltb, MOST_PENDING, MOST_PIECE, None, Ok, Option, outcome, Outcome, outcome_at, performed, PieceTooLong, Reached, read_on, Reading, reading_after, reading_of, Received, Recv, refl, refused, RequestsAreRead, Session, Some, subst, sym, Tail, tail_kept, true, with_bodies, ℕ, ◌++◌, ◌∙◌, ◌∷◌, ◌≡◌, ◌⊎◌}
-use Rattle.session.specs.declared.event.LinkFault.{LinkFault}
+use Rattle.session_laws.proofs.Common.{[], Accept, accepted_on, accepting, all_joined, Answer, ap, append_assoc, arith, Arrivals, Ask, asks_of, Beginning, BODY_LIMIT, Bool, Busy, Closing, cond, CutsDoNotMatter, done, Effect, Err, false, fault_of_reading, FaultIsOfTheBytes, Happened, histories, inl, inr, is_some, IsTaken, joined, leb, length, Link, LinkFault, List, ltb, MOST_PENDING, MOST_PIECE, None, Ok, Option, Outcome, outcome, outcome_at, performed, PieceTooLong, Reached, read_on, Reading, reading_after, reading_of, Received, Recv, refl, refused, RequestsAreRead, Session, Some, subst, sym, Tail, tail_kept, true, with_bodies, ℕ, ◌++◌, ◌∙◌, ◌∷◌, ◌≡◌, ◌⊎◌}
 use Rattle.session_laws.proofs.Waiting.{Kept, always_kept, always_lived, by_link}
 use Rattle.session_laws.proofs.Reading.{fault_stays, goes_on, whole_goes_on, up_to_fault-append, ends_at_fault, reading_after-append, none_if}
 
@@ -68,9 +67,6 @@ all_joined-append : (xs ys : List Ask) (came : Arrivals) → all_joined (all_joi
 all_joined-append [] ys came = refl
 all_joined-append (x ∷ xs) ys came = all_joined-append xs ys (joined came x)
 
-tail_gone : (f : Option LinkFault) (t u : Tail) → is_some f ≡ true → tail_kept f t ≡ tail_kept f u
-tail_gone f t u e = grind arith
-
 -- the second piece is taken too
 both : (s : Session) (l : Link) (prefix after : List ℕ) → fault_of_reading (read_on s.now prefix) ≡ None → (k : Link)
     → k ≡ record l { is_closing = is_some (fault_of_reading (read_on s.now prefix)) }
@@ -107,7 +103,7 @@ closes s l prefix after kept fine h =
     let fault : fault_of_reading r1 ≡ fault_of_reading r12 = sym (ap fault_of_reading joins ∙ same.fault) in
     let asks : asks_of r1.bodies ≡ asks_of r12.bodies = sym (ap (λ (r : Reading). asks_of r.bodies) joins ∙ same.asks) in
     let tail : tail_kept (fault_of_reading r1) r1.tail ≡ tail_kept (fault_of_reading r12) r12.tail =
-    tail_gone (fault_of_reading r1) r1.tail r12.tail h ∙ ap (λ f. tail_kept f r12.tail) fault in
+    grind (arith, h, fault) in
     let stream = ends_at_fault s.life.accepted prefix after (ap is_some (whole_goes_on s prefix kept fine).1 ∙ h) in
     λ i. with_all s l (fault i) (all_joined s.now.arrivals (asks i)) (tail i) (s.life.heard ++ asks i) (stream i)
 

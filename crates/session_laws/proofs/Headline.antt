@@ -2,8 +2,6 @@
 
 pub mod Common
 pub mod Agreeing
-pub mod ByBeat
-pub mod ByEvent
 pub mod Knowing
 pub mod Remembering
 pub mod Owing

@@ -1,6 +1,6 @@
 -- What is kept of references represents all that were ever issued, each on its connection.
-use Rattle.session_laws.proofs.Common.{[], All, All-cons, All-nil, All-weaker, ap, arith, Beginning, Call, down_from, Happened, issued_all, issued_one, length-map, Link, List, map, None, Numbers, Option, past_of, past_referred, Reached, reached_by_acts, Reference, References, references_ended as ended, ReferencesRise, ReferencesStand, referred, refl, Session, Some, StandsFor, subst, sym, Target, unless_issued, without_connection, ℕ, ⊤, ◌+◌, ◌∙◌, ◌∷◌, ◌≡◌, ◌≤◌}
-use Rattle.session_laws.proofs.ByForms.{KeptByAnswers, KeptByOthers, by_forms}
+use Rattle.session_laws.proofs.Common.{[], All, All-cons, All-nil, All-weaker, ap, arith, Beginning, Call, Close, down_from, Happened, issued_all, issued_one, length-map, Link, List, map, None, Numbers, Open, Option, past_of, past_referred, performed_on, Reached, reached_by_acts, Refer, Reference, References, references_ended as ended, ReferencesRise, ReferencesStand, referred, refl, Session, Some, StandsFor, subst, sym, Target, unless_issued, without_connection, ℕ, ⊤, ◌+◌, ◌∙◌, ◌∷◌, ◌≡◌, ◌≤◌}
+use Rattle.session_laws.proofs.ByForms.{KeptByAnswers, KeptByOthers, by_forms, on}
 use Rattle.variables.specs.Laws.Call.{EndStop, Issue}
 use Rattle.variables.specs.References as variables
 use Rattle.variables.specs.References.{Issued, Past, next_number, number_of}
@@ -70,26 +70,25 @@ pub record Refers (s : Session) : Type 0 where
   pub stands : StandsFor s.now.numbers (past_of s.references)
   pub made : AreMade s.now.link s.now.connections s.references
 
+opens : (s : Session) → Refers (on None s) → Refers (performed_on Open (on None s))
+opens s h = assumption (made_opened ⊤ s.now.connections (s.now.connections + 1) s.references h.made)
+
+closes : (s : Session) → Refers s → Refers (performed_on Close s)
+closes s h =
+    assumption (
+      ended_stands s.now.numbers (past_of s.references) h.stands,
+      made_ended s.now.link None s.now.connections s.references h.made,
+    )
+
+issues : (l : Link) (call : Option Call) (s : Session) → Refers (on (Some l) s) → Refers (performed_on (Refer call) (on (Some l) s))
+issues l call s h = assumption (referred_so call l s.now.connections s.now.numbers s.references h.stands h.made)
+
+-- the other acts change neither
 refers : KeptByOthers Refers
-refers = record {
-  opens = λ s h. record { stands = h.stands; made = made_opened ⊤ s.now.connections (s.now.connections + 1) s.references h.made };
-  closes =
-      λ s h. record {
-        stands = ended_stands s.now.numbers (past_of s.references) h.stands;
-        made = made_ended s.now.link None s.now.connections s.references h.made;
-      };
-  accepts = λ l piece s e h. record { stands = h.stands; made = h.made };
-  agrees = λ l terms s h. record { stands = h.stands; made = h.made };
-  refers = λ l call s h.
-      let so = referred_so call l s.now.connections s.now.numbers s.references h.stands h.made in record { stands = so.0; made = so.1 };
-  becomes = λ d s h. record { stands = h.stands; made = h.made };
-  tells = λ l event s few h. record { stands = h.stands; made = h.made };
-  hangs = λ l s h. record { stands = h.stands; made = h.made };
-  takes = λ n s h. record { stands = h.stands; made = h.made };
-}
+refers = assumption (opens, closes, issues)
 
 refers_answers : KeptByAnswers Refers
-refers_answers = λ l p rest outcome s few h. record { stands = h.stands; made = h.made }
+refers_answers = assumption
 
 pub always_refers : (from : Beginning) (events : List Happened) → Refers (Reached from events)
 always_refers from events =

@@ -1,13 +1,8 @@
 -- Two slices, one after the other, leave what one of all their moves leaves.
-use Rattle.session_laws.proofs.Common.{[], Accept, Act, after_beat, Agree, AnEvent, answering, Answering, ap, append-nil, arith, beat, Beat, beat_of, beats, beats_on, Become, becomes, Bool, CameTo as Outcome, closing, concluded, concludes, Debuggee, Effect, ended, Ended, ending_of, ends, enough, Event as IsEvent, exit_events, exits, false, from_here, halts, HangUp, histories, if_keeps, inl, inr, is_active, is_running, List, logged, ltb, map, nat_tests, next_beat, next_by, None, Now, Open, Option, output_events, Pending, performed, performed_append, performed_on, Program, Refer, refl, Replied as Answered, replied_on, Reply, Response, response_to, Seen, Session, Slice, sliced, SliceEnd, SlicesEnd, SlicesJoin, Slicing, Some, stop_event, stopped, Stopped, stops, subst, suc, sym, Tell, telling, tells, Tick, told, Told, true, Went, Why, with_beat, zero, ℕ, ℤ, ◌++◌, ◌+◌, ◌∙◌, ◌∷◌, ◌≡◌, ◌≤◌, ◌⊎◌}
-use Rattle.debuggee.specs.declared.run.Why.TheVariants as why
+use Rattle.session_laws.proofs.Common.{[], Act, after_all, after_beat, Agree, AnEvent, Answering, answering, ap, append-nil, arith, Beat, beat, beat_of, beats, beats_on, Become, becomes, Bool, CameTo as Outcome, closing, concluded, concludes, Debuggee, each_ends, Effect, ended, Ended, ending_of, ends, enough, exit_events, exits, false, Follows, from_here, halts, histories, if_keeps, inl, inr, is_active, is_running, is_sliced, joined, List, logged, ltb, map, Met, nat_tests, next_beat, next_by, None, Now, Option, output_events, performed, performed_append, performed_on, Program, Refer, refl, Reply, Seen, Session, Slice, sliced, SliceEnd, SlicesEnd, SlicesJoin, Slicing, Some, stays_ended, stop_event, Stopped, stopped, stops, subst, suc, sym, Tell, telling, tells, Tick, Told, told, true, Went, Why, with_beat, zero, ℕ, ℤ, ◌++◌, ◌+◌, ◌∙◌, ◌∷◌, ◌≡◌, ◌≤◌, ◌⊎◌}
 use Rattle.session.specs.declared.event.SliceEnd.TheVariants as ending
-use Rattle.session_laws.proofs.ByForms.{accepts_by, agrees_by, hangs_by, opens_by, refers_by}
-use Rattle.session_laws.proofs.Cases.{by_beat, ends_with, EndsFor, tells_tick}
-use Rattle.session_laws.proofs.Turning.{said_debuggee}
-use Rattle.session.specs.Effects.{after_all}
+use Rattle.session_laws.proofs.Cases.{by_beat, by_slicing, ends_with, EndsFor, tells_tick}
 use Rattle.session_laws.specs.Joining.{JoinedLeadToTheSame}
-use Rattle.session.proofs.Enough.{is_sliced, each_ends, stays_ended, Follows}
 
 -- ---- what changes no program
 
@@ -31,21 +26,9 @@ tells_only now events =
 abbrev Same : Session → Session → Type 0
 Same s t = t.now.debuggee ≡ s.now.debuggee
 
-replied_same : (pending : List Pending) (outcome : Answered) (s : Session) → Same s (replied_on pending outcome s)
-replied_same [] outcome s = refl
-replied_same (p ∷ rest) outcome s = said_debuggee s.now.link (Response (response_to p.ask outcome)) rest s
-
 act_same : (act : Act) (s : Session) → NoneBecome (act ∷ []) → Same s (performed_on act s)
 unfolding NoneBecome
-act_same Open s h = opens_by (Same s) s.now.link s (λ e. e) refl
-act_same (Accept piece) s h = accepts_by (Same s) s.now.link piece s (λ _ _ e. e) refl
-act_same (Agree terms) s h = agrees_by (Same s) s.now.link terms s (λ _ e. e) refl
-act_same (Refer call) s h = refers_by (Same s) s.now.link call s (λ _ e. e) refl
-act_same (Become d) s h = absurd h
-act_same (Reply outcome) s h = replied_same s.now.arrivals.pending outcome s
-act_same (Tell event) s h = said_debuggee s.now.link (IsEvent event) s.now.arrivals.pending s
-act_same HangUp s h = hangs_by (Same s) s.now.link s (λ _ e. e) refl
-act_same _ s h = refl
+act_same act s h = grind arith
 
 pub same_debuggee : (acts : List Act) (s : Session) → NoneBecome acts → (performed histories acts s).now.debuggee ≡ s.now.debuggee
 unfolding NoneBecome
@@ -57,10 +40,8 @@ pub answering_debuggee : (a : Answering) (s : Session) → (performed histories 
 unfolding NoneBecome
 answering_debuggee a s =
     same_debuggee (Refer a.references ∷ Agree a.terms ∷ Reply a.outcome ∷ (map Tell a.events ++ closing a.closes))
-    (performed_on (Become a.debuggee) s) (told_only a.events (closing a.closes) (by a.closes)) where
-      by : (closes : Bool) → NoneBecome (closing closes)
-      by true = tt
-      by false = tt
+    (performed_on (Become a.debuggee) s)
+    (told_only a.events (closing a.closes) (elim a.closes as (λ closes. NoneBecome (closing closes)) [ true ↦ tt | false ↦ tt ]))
 
 abbrev pub program_of : Session → Option Program
 program_of s = s.now.debuggee.program
@@ -90,9 +71,7 @@ exits_program now p code s =
 -- the program after what concludes, where it was this
 concludes_program : (now : Now) (p : Program) (outcome : Outcome) (ids : List ℕ) (s : Session) → program_of s ≡ Some p
     → program_of (performed histories (concludes now p outcome ids) s) ≡ Some (concluded outcome p)
-concludes_program now p Went ids s e = e
-concludes_program now p (Stopped reason) ids s e = halts_program now p (why.Met reason) ids s
-concludes_program now p (Ended code) ids s e = exits_program now p code s
+concludes_program now p outcome ids s e = grind (arith, halts_program, exits_program)
 
 pub telling_program : (now : Now) (p : Program) (tick : Tick) (s : Session)
     → program_of (performed histories (telling now p tick) s) ≡ Some (concluded tick.outcome (told p))
@@ -121,12 +100,7 @@ pub record Bounded (more : Bool) (b : Beat) : Type 0 where
   pub still : b.ending ≡ Some ending.Spent → b.acts ≡ []
 
 pub bounded : (seen : Seen) (more : Bool) → Bounded more (beat seen more)
-bounded seen more = record {
-  few = grind arith;
-  none = λ e. grind arith;
-  spent = λ e. grind arith;
-  still = λ e. grind arith;
-}
+bounded seen more = record { few = grind arith; none = λ e. grind arith; spent = λ e. grind arith; still = λ e. grind arith }
 
 -- ---- after an end each beat ends at once
 
@@ -150,20 +124,13 @@ leaves_still : (s : Session) (b : Beat) (q : Program) → program_of (performed 
 unfolding EndsStill
 leaves_still s b q is owes rests e ends never = stands (performed histories b.acts s) q is owes rests
 
--- what a tick comes to is never that a slice is spent
-pub never_spent : (outcome : Outcome) → ending_of outcome ≡ Some ending.Spent → ⊥
-never_spent Went h = cc
-never_spent (Stopped reason) h = cc
-never_spent (Ended code) h = cc
-
 concluded_still : (s : Session) (b : Beat) (p : Program) (outcome : Outcome) → program_of (performed histories b.acts s) ≡ Some (concluded outcome p)
     → p.owed ≡ None → b.ending ≡ ending_of outcome → EndsStill s b
 unfolding EndsStill
 concluded_still s b p Went is owes same e ends never = absurd (cc)
 concluded_still s b p (Stopped reason) is owes same e ends never =
-    stands (performed histories b.acts s) (stopped (why.Met reason) p) is owes refl
-concluded_still s b p (Ended code) is owes same e ends never =
-    stands (performed histories b.acts s) (ended (Some code) p) is owes refl
+    stands (performed histories b.acts s) (stopped (Met reason) p) is owes refl
+concluded_still s b p (Ended code) is owes same e ends never = stands (performed histories b.acts s) (ended (Some code) p) is owes refl
 
 -- nothing was done, and nothing will be
 idle_still : (s : Session) (p : Program) (more : Bool) (end : SliceEnd) → program_of s ≡ Some p → p.owed ≡ None
@@ -189,17 +156,13 @@ beat_still s more = by_beat (program_of s) (histories.see s) more (EndsStill s)
 
 -- ---- how many moves a slice makes
 
-next_few : (n : ℕ) (d : Slicing Session) (e : Option SliceEnd) → d.moved ≤ n → (next_by histories n e d).moved ≤ n
-next_few n d (Some e) h = h
-next_few n d None h =
-    let b = bounded (histories.see d.state) (ltb d.moved n) in
-    few_more d.moved (beat (histories.see d.state) (ltb d.moved n)).moved n b.few b.none h where
-      few_more : (m k n : ℕ) → k ≤ 1 → (ltb m n ≡ false → k ≡ 0) → m ≤ n → m + k ≤ n
-      few_more m k n one none h = grind (arith, nat_tests)
+few_more : (m k n : ℕ) → k ≤ 1 → (ltb m n ≡ false → k ≡ 0) → m ≤ n → m + k ≤ n
+few_more m k n one none h = grind (arith, nat_tests)
 
-pub moved_few : (n i : ℕ) (s : Session) → (beats histories n i s).moved ≤ n
-moved_few n zero s = omega arith
-moved_few n (suc i) s = next_few n (beats histories n i s) (beats histories n i s).ending (moved_few n i s)
+moved_few : (n i : ℕ) (s : Session) → (beats histories n i s).moved ≤ n
+moved_few n i s =
+    by_slicing n (λ d. d.moved ≤ n)
+    (λ d _ h. let b = bounded (histories.see d.state) (ltb d.moved n) in few_more d.moved _ n b.few b.none h) i s (omega arith)
 
 -- ---- what the last beat left
 
@@ -214,21 +177,16 @@ spent_again s more e =
     let limits = bounded (histories.see s) more in
     grind (arith, limits.spent e, limits.still e, limits.none (limits.spent e))
 
-next_at_end : (n : ℕ) (d : Slicing Session) (e : Option SliceEnd) → d.ending ≡ e → AtEnd n d → AtEnd n (next_by histories n e d)
+pub at_end : (n i : ℕ) (s : Session) → AtEnd n (beats histories n i s)
 unfolding EndsStill
-next_at_end n d (Some e) is h = h
-next_at_end n d None is h = record {
+at_end n i s = by_slicing n (AtEnd n) (λ d _ _. record {
   spent = λ e. (
     let less = (bounded (histories.see d.state) (ltb d.moved n)).spent e in let full : n ≤ d.moved = grind (arith, nat_tests) in omega
         (arith, full),
     spent_again d.state (ltb d.moved n) e,
   );
   still = beat_still d.state (ltb d.moved n);
-}
-
-pub at_end : (n i : ℕ) (s : Session) → AtEnd n (beats histories n i s)
-at_end n zero s = record { spent = λ e. absurd (cc); still = λ e is never. absurd (cc) }
-at_end n (suc i) s = next_at_end n (beats histories n i s) (beats histories n i s).ending refl (at_end n i s)
+}) i s (record { spent = λ e. absurd (cc); still = λ e is never. absurd (cc) })
 
 -- ---- each slice ends
 
@@ -251,10 +209,7 @@ Fork a d e whole first = (whole ≡ first) ⊎ ((e ≡ None) × ((d.moved ≡ a)
 fork : (a b : ℕ) (d : Slicing Session) (e : Option SliceEnd) → d.moved ≤ a
     → Fork a d e (next_by histories (a + b) e d) (next_by histories a e d)
 fork a b d (Some x) least = inl refl
-fork a b d None least = forks (program_alike d.state.now.debuggee.program (histories.see d.state)) where
-  forks : Alike (beat (histories.see d.state) true) (beat (histories.see d.state) false)
-      → Fork a d None (next_by histories (a + b) None d) (next_by histories a None d)
-  forks alike = grind (arith, nat_tests)
+fork a b d None least = grind (arith, nat_tests, program_alike d.state.now.debuggee.program (histories.see d.state))
 
 -- the first slice has ended for want of moves, and the whole continued from there
 record Split (a b : ℕ) (s : Session) (d : Slicing Session) : Type 0 where
@@ -276,12 +231,9 @@ beside a b s (suc i) = next (beside a b s i) where
   forked : beats histories (a + b) i s ≡ d → Fork a d d.ending (next_by histories (a + b) d.ending d) (next_by histories a d.ending d)
       → Beside a b s (suc i)
   forked same (inl f) = inl (ap (next_beat histories (a + b)) same ∙ f)
-  forked same (inr f) = inr (subst (Split a b s) (sym f.1.1) (record {
-    ended = refl;
-    full = f.1.0;
-    at = i;
-    there = same ∙ (λ j. record { state = d.state; moved = d.moved; ending = f.0 j });
-  }))
+  forked same (inr f) =
+      let there = same ∙ (λ j. record { state = d.state; moved = d.moved; ending = f.0 j }) in
+      inr (subst (Split a b s) (sym f.1.1) (record { ended = refl; full = f.1.0; at = i; there = there }))
 
   next : Beside a b s i → Beside a b s (suc i)
   next (inl same) = forked same (fork a b d d.ending (moved_few a i s))
@@ -291,9 +243,6 @@ beside a b s (suc i) = next (beside a b s i) where
 
 shifted : ℕ → Slicing Session → Slicing Session
 shifted a d = record { state = d.state; moved = a + d.moved; ending = d.ending }
-
-shift_test : (a b m : ℕ) → ltb (a + m) (a + b) ≡ ltb m b
-shift_test a b m = grind (arith, nat_tests)
 
 next_shifted : (a b : ℕ) (d : Slicing Session) (e : Option SliceEnd) → d.ending ≡ e
     → next_by histories (a + b) e (shifted a d) ≡ shifted a (next_by histories b e d)

@@ -1,23 +1,13 @@
 -- A reference is answered in its stop and on its connection, and is stale after that.
-use Rattle.session_laws.proofs.Common.{[], All, All-head, All-tail, answer_by, ap, arith, Beginning, Bool, bytes_eq, codes, Command, Debugged, demand, demand_of, Done, eqb, eqb-false, eqb-true, Err, Evaluate, false, first_refusal, found_in, given_of, goes_on, Happened, Hart, has_ended, has_none, if_keeps, IfSome, inl, InOrder, inr, is_cancelled, is_no_thread, is_of_other_kind, is_repeat, is_taken_in, IsStale, IsUnknown, Link, List, looks_on, map, MatchBool, name_answer, names_none, negsuc, None, not, Now, Ok, Option, outcome_next, Phase, pos, Program, Reached, Reference, reference_in, ReferencesAreGood, ReferencesLast, refl, Refusal, refusals, Refused, Replied as Outcome, Request, ResponseBody, Result, Run, run_of, Scopes, Session, set_in, setting_of, SetVariable, SetVariableArguments, shows_by, slice_get, Some, subst, suc, success_of, sym, Target, Terms, true, unless_zero, Variables, WasIssued, where_so, without_connection, zero, ℕ, ℤ, ⊤, ◌&&◌, ◌+◌, ◌↔◌, ◌∙◌, ◌∷◌, ◌≡◌}
-use Rattle.std.proofs.lemmas.Option.{same_Some}
-use Rattle.std.specs.Result.{result_err}
-use Rattle.answers.specs.Evaluate.{unless_refused, valued}
+use Rattle.session_laws.proofs.Common.{[], All, All-head, All-tail, answer_by, ap, arith, Beginning, Bool, Command, Debugged, demand, demand_of, Done, eqb, eqb-false, eqb-true, Err, Evaluate, false, first_refusal, found_among, found_in, given_of, Happened, if_keeps, IfSome, inl, InOrder, inr, is_of_other_kind, IsStale, IsUnknown, Link, List, looks_on, map, MatchBool, negsuc, next_after, None, Now, Ok, Option, outcome_next, Phase, pos, Program, Reached, Reference, reference_in, ReferencesAreGood, ReferencesLast, refl, Refusal, refusals, Refused, Replied as Outcome, Request, ResponseBody, Result, result_err, Run, run_of, same_Some, Scopes, Session, set_in, SetVariable, SetVariableArguments, shows_by, slice_get, Some, subst, suc, success_of, sym, Target, Terms, true, unless_refused, valued, Variables, WasIssued, without_connection, zero, ℕ, ℤ, ⊤, ◌+◌, ◌↔◌, ◌∙◌, ◌∷◌, ◌≡◌}
 use Rattle.answers.specs.Expressions.{expression_of}
-use Rattle.answers.specs.Scopes.{body_by as scopes_by, given_by}
-use Rattle.answers.specs.Targets.{frame_refusal, if_frame, refused, target_of}
-use Rattle.answers.specs.Variables.{body_by as variables_by, variables_in}
+use Rattle.answers.specs.Targets.{if_frame, refused, target_of}
 use Rattle.protocol.specs.declared.evaluate.EvaluateArguments.{EvaluateArguments}
-use Rattle.protocol.specs.declared.scopes.ScopesArguments.{ScopesArguments}
-use Rattle.protocol.specs.declared.variables.VariablesArguments.{VariablesArguments}
 use Rattle.protocol.specs.declared.refusal.Refusal.TheVariants as refusal
 use Rattle.protocol.specs.declared.request.Request.{Request as ARequest}
 use Rattle.queues.specs.declared.pending.Fate.{Fate}
-use Rattle.breakpoints.specs.Trees.{Tree}
 use Rattle.handlers.specs.SetVariable.{sets_by, sets_on}
-use Rattle.rv32i.specs.Names.{number_named}
 use Rattle.session_laws.proofs.Issuing.{IsMade, Refers, always_refers}
-use Rattle.variables.specs.References.{found_among, next_after}
 use Rattle.variables.specs.declared.error.FindError.{FindError}
 use Rattle.variables.specs.declared.error.FindError.TheVariants.{Unknown, Stale}
 
@@ -40,7 +30,7 @@ says_more : (stop number : ℕ) (r : Reference) (issued : List Reference) (x : R
     → Says stop number issued x → Says stop number (r ∷ issued) x
 says_more stop number r issued (Ok t) other h = later (λ r. (r.number ≡ number) × ((r.stop ≡ stop) × (r.target ≡ t))) r issued h
 says_more stop number r issued (Err Stale) other h = later (λ r. (r.number ≡ number) × (r.stop ≡ stop → ⊥)) r issued h
-says_more stop number r issued (Err Unknown) other h = λ a. not_here a where
+says_more stop number r issued (Err Unknown) other h = not_here where
   not_here : At (r ∷ issued) (λ r. r.number ≡ number) → ⊥
   not_here (q, zero, (there, is)) = other (subst (λ (x : Reference). x.number ≡ number) (sym (same_Some r q there)) is)
   not_here (q, suc place, rest) = h (q, place, rest)
@@ -104,8 +94,7 @@ known s h number (Err Unknown) a = λ w. a (w.reference, w.place, (w.there, sym 
 knows : (s : Session) → Refers s → (number : ℤ) → Knows s number (target_of s.now.numbers number)
 knows s h (pos number) =
     known s h number (found_in s.now.numbers number)
-    (subst (Says s.references.stop number s.references.issued) (sym (h.stands.finds number))
-    (finds_so s.references.stop number s.references.issued))
+    (rw (h.stands.finds number) (finds_so s.references.stop number s.references.issued))
 knows s h (negsuc number) = λ w. absurd (let no : negsuc number ≡ pos w.reference.number = w.so in cc)
 
 -- two that were issued under one number are one
@@ -145,40 +134,14 @@ abbrev IsOtherIf : {X : Type 0} → Result X Refusal → Type 0
 IsOtherIf (Ok x) = ⊤
 IsOtherIf (Err why) = is_about why ≡ false
 
-valued_other : (tree : Option Tree) (hart : Hart) (memory : List ℕ) → IsOtherIf (valued tree hart memory)
-valued_other tree hart memory = grind arith
-
-unless_zero_other : (number : Option ℕ) → IsOtherIf (unless_zero number)
-unless_zero_other number = grind arith
-
-name_other : (name : List ℕ) → IsOtherIf (name_answer name)
-name_other name =
-    if_keeps (λ (r : Result ℕ Refusal). IsOtherIf r) (bytes_eq name (codes "pc")) _ _ (λ _. refl) (λ _. unless_zero_other (number_named name))
-
 module _ (now : Now) (terms : Terms) where
-  shows_other : (result : Result ResponseBody Refusal) (targets : List Target) → IsOtherIf result
-      → IsOther (shows_by (given_of now) terms result targets).outcome
-  shows_other result targets h = grind arith
-
-  scopes_speak : (arguments : ScopesArguments) (found : Result Target Refusal) → Speaks (Scopes arguments) found
-      (shows_by (given_of now) terms (scopes_by now.numbers (if_frame found)) (given_by (if_frame found))).outcome
-  scopes_speak arguments found = grind arith
-
   evaluate_speaks : (arguments : EvaluateArguments) (answer : Result ResponseBody Refusal) (found : Result Target Refusal) → IsOtherIf answer
       → Speaks (Evaluate arguments) found (shows_by (given_of now) terms (unless_refused (result_err (if_frame found)) answer) []).outcome
   evaluate_speaks arguments answer found h = grind arith
 
-  variables_speak : (machine : Debugged) (arguments : VariablesArguments) (found : Result Target Refusal)
-      → Speaks (Variables arguments) found (shows_by (given_of now) terms (variables_by arguments (variables_in machine found)) []).outcome
-  variables_speak machine arguments found = grind arith
-
-  setting_other : (hart : Hart) (number : Result ℕ Refusal) (value : Option ℕ) → IsOtherIf number
-      → IsOther (sets_by (given_of now) terms (setting_of hart number value)).outcome
-  setting_other hart number value h = grind arith
-
   set_speaks : (machine : Debugged) (arguments : SetVariableArguments) (found : Result Target Refusal)
       → Speaks (SetVariable arguments) found (sets_by (given_of now) terms (set_in arguments machine found)).outcome
-  set_speaks machine arguments found = grind (arith, name_other arguments.name)
+  set_speaks machine arguments found = grind arith
 
   -- ---- every such request
 
@@ -201,20 +164,18 @@ module _ (now : Now) (terms : Terms) where
     λ p is.
         let answer = valued (expression_of arguments.expression) p.machine.hart p.machine.memory in
         looked (Evaluate arguments) (target_of now.numbers number) p is
-        (subst (λ (id : Option ℤ). Speaks (Evaluate arguments) (target_of now.numbers number)
-        (shows_by (given_of now) terms (unless_refused (frame_refusal now.numbers id) answer) []).outcome) (sym e)
-        (evaluate_speaks arguments answer (target_of now.numbers number)
-        (valued_other (expression_of arguments.expression) p.machine.hart p.machine.memory))),
+        (rw e (evaluate_speaks arguments answer (target_of now.numbers number)
+        (grind arith))),
   )
 
   answers : (file : Option (List ℕ)) (c : Command) → IfSome (reference_in c) (Answers file c)
   unfolding Answers
   answers file (Scopes arguments) =
       let found = target_of now.numbers arguments.frame_id in
-      (refl, λ p is. looked (Scopes arguments) found p is (scopes_speak arguments found))
+      (refl, λ p is. looked (Scopes arguments) found p is (grind arith))
   answers file (Variables arguments) =
       let found = target_of now.numbers arguments.variables_reference in
-      (refl, λ p is. looked (Variables arguments) found p is (variables_speak p.machine arguments found))
+      (refl, λ p is. looked (Variables arguments) found p is (grind arith))
   answers file (SetVariable arguments) =
       let found = target_of now.numbers arguments.variables_reference in (
         refl,
@@ -230,23 +191,9 @@ abbrev FirstIsOther : Option Refusal → Type 0
 FirstIsOther None = ⊤
 FirstIsOther (Some why) = is_about why ≡ false
 
-other_first : (reason : Bool) (why : Refusal) (rest : List (Option Refusal)) → is_about why ≡ false → FirstIsOther (first_refusal rest)
-    → FirstIsOther (first_refusal (where_so reason why ∷ rest))
-other_first true why rest here there = here
-other_first false why rest here there = there
-
 before_is_other : (run : Option Run) (phase : Phase) (r : ARequest) (fate : Fate)
     → FirstIsOther (first_refusal (refusals run phase (record { ask = Request r; fate = fate })))
-before_is_other run phase r fate =
-    let demand = demand_of r.command in
-    other_first (is_repeat fate) refusal.RepeatedSequence _ refl
-    (other_first (is_cancelled fate) refusal.Cancelled _ refl
-    (other_first (not (is_taken_in phase r.command)) refusal.WrongPhase _ refl
-    (other_first (demand.loaded && has_none run) refusal.NoMachine _ refl
-    (other_first (demand.alive && has_ended run) refusal.Ended _ refl
-    (other_first (is_no_thread demand.thread) refusal.NoThread _ refl
-    (other_first (demand.still && goes_on run) refusal.NotStopped _ refl
-    (other_first (names_none fate) refusal.RequestGone [] refl tt)))))))
+before_is_other run phase r fate = grind arith
 
 -- where none applies, there is a program
 has_program : (program : Option Program) (phase : Phase) (r : ARequest) (fate : Fate) → demand_of r.command ≡ demand

@@ -3,7 +3,6 @@
 pub mod Common
 -- plain texts
 pub mod Words
-pub mod Names
 pub mod Instructions
 pub mod FileNames
 -- what comes and what is debugged

@@ -1,11 +1,10 @@
 -- A program that runs and is marked retires no instruction.
-use Rattle.session_laws.proofs.Common.{[], Accept, and_right, AnEvent as Event, answer_to, answering, Answering, ap, arith, beat, Beat, beats, Bool, by_success, BySuccess, bytes_eq, CameTo, Command, concluded, Cut, Debuggee, demand_of, Disconnects, EditorLeaves, Effect, ended, ending_of, enough, false, first_mark, first_run, given_of, goes_on, Happened, histories, inl, inr, is_running, is_some, is_success, IsAtRest, IsMarked, leaves, List, ltb, Mark, marked, marked_by, MarkedRetiresNone, MatchOption, Meets, name_asked, name_of, next_by, None, Now, of_answer, OfEvent, on_program, Open, Option, Pause, PauseMarks, Pauses, Pending, performed, Program, refl, restarted, RetiresNone, RetiresNoneIn, Run, run_of, Session, SetBreakpoints, SetVariable, Slice, SliceEnd, Slicing, Some, subst, suc, success_of, sym, Terms, Tick, told, true, Turn, Wanted, Went, Whole, with_list, WriteMemory, zero, ℕ, ◌&&◌, ◌∙◌, ◌∷◌, ◌≡◌, ◌⊎◌}
+use Rattle.session_laws.proofs.Common.{[], Accept, and_right, AnEvent as Event, answer_to, Answering, answering, ap, arith, Beat, beat, beats, Bool, by_success, BySuccess, bytes_eq, CameTo, Command, concluded, Cut, Debuggee, demand_of, Disconnects, EditorLeaves, Effect, ended, ending_of, enough, false, first_run, given_of, goes_on, Happened, histories, inl, inr, is_running, is_some, is_success, IsAtRest, IsMarked, leaves, List, ltb, Mark, marked, marked_by, MarkedRetiresNone, MatchOption, Meets, name_asked, name_of, None, Now, of_answer, OfEvent, on_program, Open, Option, Pause, PauseMarks, Pauses, Pending, performed, Program, refl, restarted, RetiresNone, RetiresNoneIn, Run, run_of, Session, SetVariable, Slice, Slicing, Some, subst, success_of, sym, Terms, Tick, told, true, Turn, Whole, with_list, WriteMemory, ℕ, ◌&&◌, ◌∙◌, ◌∷◌, ◌≡◌, ◌⊎◌}
 use Rattle.debuggee.specs.declared.run.Mark.TheVariants as mark
-use Rattle.debuggee.specs.declared.run.Run.TheVariants as run
 use Rattle.protocol.specs.declared.disconnect.TheConstants.{NAME as DISCONNECT}
 use Rattle.protocol.specs.declared.pause.TheConstants.{NAME as PAUSE}
 use Rattle.session_laws.proofs.Answered.{by_turn}
-use Rattle.session_laws.proofs.Cases.{by_beat, by_effect, tells_tick}
+use Rattle.session_laws.proofs.Cases.{by_beat, by_effect, by_slicing, tells_tick}
 use Rattle.session_laws.proofs.Joined.{exits_program, halts_program, NoneBecome, program_of, still_holds, telling_program}
 pub use Rattle.session_laws.proofs.Joined.{answering_debuggee}
 
@@ -26,8 +25,7 @@ record Rests (s : Session) (b : Beat) : Type 0 where
 
 concluded_waits : (outcome : CameTo) (p : Program) → Marked (Some p)
     → Waits (Some (concluded outcome p)) × (ending_of outcome ≡ None → Marked (Some (concluded outcome p)))
-concluded_waits Went p m = (inl m, λ _. m)
-concluded_waits _ p m = (inr refl, λ e. absurd (cc))
+concluded_waits outcome p m = grind arith
 
 tick_rests : (s : Session) (p : Program) (tick : Tick) → Marked (Some p) → Rests s (tells_tick s.now p tick)
 tick_rests s p tick m =
@@ -43,16 +41,8 @@ beat_rests s more h = by_beat (program_of s) (histories.see s) more (Rests s) (�
     record {
       tells = λ tick _. tick_rests s p tick m;
       ends_for = λ e _ _. record { waits = inl h; none = refl; going = λ x. absurd (cc) };
-      stops_for = λ w _ _. record {
-        waits = subst Waits (sym (halts_program s.now p w [] s)) (inr refl);
-        none = refl;
-        going = λ x. absurd (cc);
-      };
-      exits_with = λ code _ _ _. record {
-        waits = subst Waits (sym (exits_program s.now p code s)) (inr refl);
-        none = refl;
-        going = λ x. absurd (cc);
-      };
+      stops_for = λ w _ _. record { waits = rw (halts_program s.now p w [] s) (inr refl); none = refl; going = λ x. absurd (cc) };
+      exits_with = λ code _ _ _. record { waits = rw (exits_program s.now p code s) (inr refl); none = refl; going = λ x. absurd (cc) };
       enters = λ _ free _. absurd (marked free);
       moves = λ _ free _ _ _. absurd (marked free);
     })
@@ -64,16 +54,12 @@ record Slept (d : Slicing Session) : Type 0 where
   none : d.moved ≡ 0
   going : d.ending ≡ None → Marked (program_of d.state)
 
-next_slept : (n : ℕ) (d : Slicing Session) (e : Option SliceEnd) → d.ending ≡ e → Slept d → Slept (next_by histories n e d)
-next_slept n d (Some e) is h = h
-next_slept n d None is h =
-    let b = beat_rests d.state (ltb d.moved n) (h.going is) in
-    let before = h.none in let now = b.none in
-    record { waits = b.waits; none = omega (arith, before, now); going = b.going }
-
 slept : (n i : ℕ) (s : Session) → IsMarked s.now.debuggee → Slept (beats histories n i s)
-slept n zero s h = record { waits = inl h; none = refl; going = λ _. h }
-slept n (suc i) s h = next_slept n (beats histories n i s) (beats histories n i s).ending refl (slept n i s h)
+slept n i s h = by_slicing n Slept (λ d is x.
+    let b = beat_rests d.state (ltb d.moved n) (x.going is) in
+    let before = x.none in let now = b.none in
+    record { waits = b.waits; none = omega (arith, before, now); going = b.going })
+    i s (record { waits = inl h; none = refl; going = λ _. h })
 
 -- ---- an answer
 
@@ -83,24 +69,14 @@ Goes name a = Waits a.debuggee.program ⊎ ((bytes_eq name DISCONNECT.now && is_
 
 on_waits : (f : Program → Program) (program : Option Program) → Marked program
     → ((p : Program) → is_running p.run ≡ true → is_some p.mark ≡ true → Waits (Some (f p))) → Waits (on_program f program)
-on_waits f None h keeps = absurd h
-on_waits f (Some p) h keeps = keeps p h.0 h.1
-
-keeps_mark : (mark : Option Mark) (other : Option Mark) → is_some mark ≡ true → is_some (first_mark mark other) ≡ true
-keeps_mark mark other h = grind arith
+on_waits f program h keeps = grind (arith, keeps)
 
 marked_waits : (r : Run) (mark : Mark) (p : Program) → is_running p.run ≡ true → is_some p.mark ≡ true → Waits (Some (marked_by r mark p))
 marked_waits run mark p r m = grind arith
 
-listed_waits : (command : Command) (list : List Wanted) (p : Program) → is_running p.run ≡ true → is_some p.mark ≡ true
-    → Waits (Some (with_list command list p))
-listed_waits (SetBreakpoints arguments) list p r m = inl (r, m)
-listed_waits other list p r m = inl (r, m)
-
 -- a request that wants the program to stand still is refused
 no_step : {A : Type 0} (program : Option Program) → Marked program → goes_on (run_of program) ≡ false → A
-no_step None h still = absurd h
-no_step (Some p) h still = absurd (let no : true ≡ false = sym h.0 ∙ still in cc)
+no_step program h still = absurd (grind arith)
 
 -- the answer to a request where the program is as it asks
 abbrev WaitsTaken : Now → Command → Answering → Type 0
@@ -122,18 +98,17 @@ module _ (now : Now) (terms : Terms) (h : Marked now.debuggee.program) where
     loaded = λ arguments text _ _. inl (inr refl);
     wrong = λ _ _ _ _ _. inl same;
     attaches = λ _. inl same;
-    begun = λ _ _. inl (on_waits first_run now.debuggee.program h (λ p r m. inl (refl, keeps_mark p.mark _ m)));
+    begun = λ _ _. inl (on_waits first_run now.debuggee.program h (λ p r m. inl (refl, grind arith)));
     joined = λ _ _. inl same;
     agreed = λ _ _ _. inl same;
-    restarts = λ _. inl (on_waits (λ p. first_run (restarted p)) now.debuggee.program h (λ p r m. inl (refl, keeps_mark p.mark _ m)));
+    restarts = λ _. inl (on_waits (λ p. first_run (restarted p)) now.debuggee.program h (λ p r m. inl (refl, grind arith)));
     terminates = λ _. inl (on_waits (ended None) now.debuggee.program h (λ p r m. inr refl));
     leaves = λ _ _. inr refl;
     pauses = λ _ _. inl (on_waits (marked mark.Pause) now.debuggee.program h (λ p r m. marked_waits p.run mark.Pause p r m));
     stepped = λ c kind _ meets. no_still c kind.still meets;
-    absent = λ _ _ _ _. inl same;
     refused = λ _ _ _ _ _. inl same;
     sets_none = λ _ _ _ _ _ _ _ _. inl same;
-    sets_list = λ c _ _ _ list _ _ _ _ _. inl (on_waits (with_list c list) now.debuggee.program h (listed_waits c list));
+    sets_list = λ c _ _ _ list _ _ _ _ _. inl (on_waits (with_list c list) now.debuggee.program h (λ p r m. grind arith));
     shows = λ c kind _ _ _ _ _ _ meets. no_still c kind.still meets;
     sets_register = λ arguments _ _ _ _ _ meets. no_still (SetVariable arguments) refl meets;
     writes = λ arguments _ _ _ _ _ meets. no_still (WriteMemory arguments) refl meets;
@@ -144,7 +119,7 @@ answer_waits : (now : Now) (terms : Terms) (file : Option (List ℕ)) (p : Pendi
 answer_waits now terms file p h =
     of_answer (λ ask answer. Goes (name_asked ask) answer) now terms file p.ask p.fate
     (λ refusal _. inl (inl h))
-    (λ r taken meets. by_success (given_of now) terms (WaitsTaken now) (successes_wait now terms h) file r.command meets)
+    (λ r taken meets. by_success (given_of now) terms (WaitsTaken now) (successes_wait now terms h) file r.command meets.loaded meets)
 
 -- ---- an event
 
@@ -159,8 +134,7 @@ turn_passes file s h =
     }) s.now.link where
       by : {leaves : Type 0} (a : Answering) → Waits a.debuggee.program ⊎ leaves
           → leaves ⊎ Waits (program_of (performed histories (answering a) s))
-      by a (inl w) = inr (subst (λ (d : Debuggee). Waits d.program) (sym (answering_debuggee a s)) w)
-      by a (inr leaves) = inl leaves
+      by a passes = grind (arith, answering_debuggee a s)
 
 event_passes : (e : Event) (s : Session) → IsMarked s.now.debuggee → EditorLeaves s e ⊎ Waits (program_of (Effect s e))
 unfolding NoneBecome
@@ -170,7 +144,7 @@ event_passes e s h = by_effect s (λ e t. EditorLeaves s e ⊎ Waits (program_of
   accepts = λ piece. inr (still_holds Waits (Accept piece ∷ []) s tt (inl h));
   turns = λ file. turn_passes file s h;
   slices = λ _. inr (inl h);
-  holds = inr (on_waits (marked mark.Hold) (program_of s) h (λ p r m. marked_waits p.run mark.Hold p r m));
+  holds = inr (on_waits (marked mark.Hold) (program_of s) h (λ p r m. grind arith));
   takes = λ _. inr (inl h);
   drops = λ l is. inl (ap is_some is);
 }) (λ n. inr (slept n (enough n) s h).waits) e
@@ -189,9 +163,7 @@ goes_on_none : (x : Happened) (happened : List Happened) (s : Session)
     → (IsMarked (leaves s x).now.debuggee → RetiresNoneIn happened (leaves s x))
     → OfEvent (EditorLeaves s) x ⊎ Waits (program_of (leaves s x))
     → IsAtRest (leaves s x).now.debuggee ⊎ (OfEvent (EditorLeaves s) x ⊎ RetiresNoneIn happened (leaves s x))
-goes_on_none x happened s rest (inl gone) = inr (inl gone)
-goes_on_none x happened s rest (inr (inl m)) = inr (inr (rest m))
-goes_on_none x happened s rest (inr (inr rests)) = inl rests
+goes_on_none x happened s rest passes = grind arith
 
 retires_none_in : (happened : List Happened) (s : Session) → IsMarked s.now.debuggee → RetiresNoneIn happened s
 retires_none_in [] s h = tt
@@ -203,20 +175,12 @@ marked_retires_none s h happened = retires_none_in happened s h
 
 -- ---- `pause`
 
-any_marked : (m : Option Mark) → is_some (first_mark m (Some mark.Pause)) ≡ true
-any_marked m = grind arith
-
-pause_one : (r : Run) (p : Program) → is_running r ≡ true → is_running p.run ≡ true → Marked (Some (marked_by r mark.Pause p))
-pause_one run.Running p is r = (r, any_marked p.mark)
-pause_one _ p is r = cc
-
 -- a program that runs
 abbrev Runs : Option Program → Type 0
 Runs program = MatchOption program ⊥ (λ p. is_running p.run ≡ true)
 
 paused : (program : Option Program) → Runs program → Marked (on_program (marked mark.Pause) program)
-paused None h = absurd h
-paused (Some p) h = pause_one p.run p h h
+paused program h = grind arith
 
 -- what a success of it leaves
 abbrev PausesBy : List ℕ → Answering → Type 0

@@ -1,17 +1,11 @@
 -- Each message is proper, and says what is so of the program's run; and `initialize` succeeds once at most on a connection.
-use Rattle.session_laws.proofs.Common.{[], All, All-nil, All-push, All-weaker, answer_on, answer_to, Answering, AnswersAreProper, arith, AsksLinesWithin, Beginning, Bool, by_success, BySuccess, codes, Command, Done, each_life, Event as IsEvent, false, first_run, given_of, Happened, Has, has_program, IfOk, initializes, initializes_by, InitializesOnce, is_plain, is_resume, is_running, is_success, is_taken_in, IsNarrowRow, IsPlain, Life, life_of, Link, List, Looks, Message, name_asked, name_of, None, not_absent, Now, number_of, of_answer, Ok, Option, Pending, Phase, Program, Reached, refl, Refusal, Response, response_to, ResponseBody, restarted, Result, resumed, Run, RunsAreTold, RunsAs, Said, said_next, saying, SaysItsRun, seen_in, Session, SetsList, Setting, Some, subst, sym, Terms, times_initialized, true, Wanted, ℕ, ◌&&◌, ◌++◌, ◌+◌, ◌<◌, ◌^◌, ◌∙◌, ◌∷◌, ◌≡◌, ◌≤◌}
+use Rattle.session_laws.proofs.Common.{[], All, All-nil, All-push, All-weaker, answer_on, answer_to, Answering, AnswersAreProper, arith, AsksLinesWithin, Beginning, by_success, BySuccess, Command, Done, each_life, Event as IsEvent, false, first_run, given_of, Happened, Has, has_program, IfOk, initializes, initializes_by, InitializesOnce, is_plain, is_resume, is_running, is_success, is_taken_in, IsNarrowRow, IsPlain, Life, life_of, line_in, Link, List, Looks, Message, name_asked, name_of, None, Now, of_answer, Ok, Option, Orderly, OrderlyIn, OrderlyOf, Pending, Phase, Program, Reached, refl, Refusal, Response, response_to, ResponseBody, restarted, Result, resumed, Run, RunsAreTold, RunsAs, Said, said_next, saying, SaysItsRun, seen_in, Session, SetsList, settings_are_proper, Some, start_of, subst, sym, Terms, times_initialized, true, view_of, Wanted, writings_are_proper, ℕ, ◌&&◌, ◌++◌, ◌+◌, ◌<◌, ◌^◌, ◌∙◌, ◌∷◌, ◌≡◌, ◌≤◌}
 use Rattle.answers.proofs.Proper.{answers_are_proper as breaks_are_proper}
 use Rattle.answers.proofs.ProperLooking.{looks_are_proper}
-use Rattle.answers.proofs.ProperValues.{settings_are_proper, writings_are_proper}
 use Rattle.answers.specs.Laws.{HoldsWords, IsNarrow, NumbersFit}
-use Rattle.answers.specs.declared.write_memory.Writing.{Writing}
-use Rattle.handlers.specs.Phases.{base_of, is_fresh_in}
-use Rattle.handlers.specs.Views.{view_of}
 use Rattle.handlers.specs.declared.phase.Phase.TheVariants.{Fresh}
-use Rattle.image.specs.Lines.{line_in, start_of}
 use Rattle.replies.specs.Messages.{IsProper}
 use Rattle.replies.specs.Responses.{IsOutcomeOf}
-use Rattle.session.proofs.Orderly.{Orderly, OrderlyIn, OrderlyOf}
 use Rattle.session_laws.proofs.Asked.{IsRead, has_no_text, number_is}
 use Rattle.session_laws.proofs.ByForms.{on, on_with}
 use Rattle.session_laws.proofs.Turning.{answer_orderly, agreed_with, changed, once_answered, BoundsIn, KeptByEvents, KeptByTelling, reached_by_events, runs_as}
@@ -28,13 +22,7 @@ fewer phase n k h = grind arith
 few_in : (phase : Phase) (n : ℕ) → Suits phase n → n ≤ 1
 few_in phase n h = grind arith
 
-first_time : (phase : Phase) (n : ℕ) → is_fresh_in phase ≡ true → Suits phase (n + 0) → n + 1 ≤ 1
-first_time phase n e h = grind arith
-
 -- ---- one answer
-
-within : (n : ℕ) → n ≤ 2147483647 → n < 4294967296
-within n h = omega (arith, h)
 
 -- the line table of a program is narrow
 narrow_table : (p : Program) → Orderly p → IsNarrow p.image.lines
@@ -44,13 +32,10 @@ narrow_table p h = record {
 }
 
 -- the numbers of an orderly program are words
-holds_words : (p : Program) → Orderly p → HoldsWords p.machine
+pub holds_words : (p : Program) → Orderly p → HoldsWords p.machine
 holds_words p h =
     let m = h.range.machine.machine in
     record { pc = m.pc; registers = m.x.words; memory = m.memory; calls = h.range.machine.calls.words; few = h.range.machine.calls.few }
-
-base_small : (starts_at1 : Bool) → base_of starts_at1 < 2 ^ 32
-base_small starts_at1 = grind arith
 
 abbrev Goes : Run → Type 0
 Goes run = is_running run ≡ true
@@ -92,7 +77,7 @@ module _ (now : Now) (terms : Terms) (b : BoundsIn now) (h : OrderlyIn now.debug
       let o : Orderly p = subst OrderlyOf is h in
       subst (IsOf c) e
       (looks_are_proper c p.machine p.image.lines now.numbers (view_of terms p) kind.looks (holds_words p o) (narrow_table p o)
-      (record { within = b.numbers.0; last = b.numbers.1 }) (base_small terms.columns_start_at1))
+      (record { within = b.numbers.0; last = b.numbers.1 }) (grind arith))
 
   set_is_plain : (c : Command) → SetsList c → (p : Program) (body : ResponseBody) → (answer_on p (given_of now) terms c).result ≡ Ok body
       → initializes (Done body) ≡ 0
@@ -103,7 +88,7 @@ module _ (now : Now) (terms : Terms) (b : BoundsIn now) (h : OrderlyIn now.debug
 
   successes_fit : BySuccess (given_of now) terms (FitsTaken now terms n)
   successes_fit = record {
-    initialized = λ _ taken _ _. record { outcome = (refl, refl); runs = never; suits = first_time terms.phase n taken s };
+    initialized = λ _ taken _ _. record { outcome = (refl, refl); runs = never; suits = grind (arith, s, taken) };
     unreadable = λ _ _ _ _. record { outcome = refl; runs = never; suits = s };
     loaded = λ _ _ _ _ _ _. record { outcome = (refl, refl); runs = never; suits = few };
     wrong = λ _ _ _ _ _ _ _. record { outcome = refl; runs = never; suits = s };
@@ -124,7 +109,6 @@ module _ (now : Now) (terms : Terms) (b : BoundsIn now) (h : OrderlyIn now.debug
       runs = λ _. runs_as Goes (resumed g) now.debuggee.program (has_program (given_of now) c kind.loaded there) (λ _. refl);
       suits = suited _ kind.plain;
     };
-    absent = λ c about none _ there _. not_absent (given_of now) c about there none;
     refused = λ _ _ refusal plain _ _ _. record { outcome = sym plain; runs = never; suits = s };
     sets_none = λ c kind p body is e f _ _ asks. record {
       outcome = set_is_of c kind asks p body None is e f tt;
@@ -142,16 +126,12 @@ module _ (now : Now) (terms : Terms) (b : BoundsIn now) (h : OrderlyIn now.debug
       suits = suited _ none;
     };
     sets_register = λ arguments p setting is e none _ _ _. record {
-      outcome =
-          subst (λ (r : Result Setting Refusal). IfOk r (λ s. IsOutcomeOf (codes "setVariable") (Done s.body))) e
-          (settings_are_proper arguments p.machine now.numbers);
+      outcome = rw e at (settings_are_proper arguments p.machine now.numbers);
       runs = never;
       suits = suited _ none;
     };
     writes = λ arguments p writing is e none _ _ _. record {
-      outcome =
-          subst (λ (r : Result Writing Refusal). IfOk r (λ w. IsOutcomeOf (codes "writeMemory") (Done w.body))) e
-          (writings_are_proper arguments p.machine.memory);
+      outcome = rw e at (writings_are_proper arguments p.machine.memory);
       runs = never;
       suits = suited _ none;
     };
@@ -161,8 +141,8 @@ module _ (now : Now) (terms : Terms) (b : BoundsIn now) (h : OrderlyIn now.debug
   answer_fits file p read =
       of_answer (λ ask answer. IsRead ask → Fits n (name_asked ask) answer) now terms file p.ask p.fate
       (λ refusal is read. record { outcome = sym (has_no_text p.ask refusal read is); runs = never; suits = s })
-      (λ r taken meets read. by_success (given_of now) terms (FitsTaken now terms n) successes_fit file r.command taken meets.loaded
-      read.1.0) read
+      (λ r taken meets read. by_success (given_of now) terms (FitsTaken now terms n) successes_fit file r.command meets.loaded
+      taken meets.loaded read.1.0) read
 
 -- ---- every session
 
@@ -225,7 +205,7 @@ sound = record {
       once_answered AreSound tells (λ _ _ x. record { before = x.before; present = x.present; suits = x.suits }) l p rest s a
       (answer_orderly now l.terms file p read.0 bounds orderly).2
       (λ _. says (agreed_with l a) (Response (response_to p.ask a.outcome)) rest (changed l (p ∷ rest) s a)
-      (within (number_of p.ask) (number_is p.ask read.0), fits.outcome) fits.runs fits.suits h.before h.present)
+      (omega (arith, number_is p.ask read.0), fits.outcome) fits.runs fits.suits h.before h.present)
       (record { before = h.before; present = h.present; suits = fewer a.terms.phase n _ fits.suits });
   takes = λ n s h. record { before = h.before; present = h.present; suits = h.suits };
 }

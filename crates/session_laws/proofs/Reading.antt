@@ -1,7 +1,5 @@
 -- The requests that came are those of the bytes that were accepted, and two pieces are as one.
-use Rattle.framing.proofs.Pasts.{nothing_stands}
-use Rattle.session_laws.proofs.Common.{[], ap, append-nil, append_assoc, arith, Ask, asks_in, asks_of, Bad, BODY_LIMIT, cond-false, cond-true, Err, false, fault_in, fault_of, fault_of_reading, fault_or, if_keeps, Ignored, Incoming, incoming_of, is_faulty, is_some, IsBad, IsRequest, List, map, map-append, message_fault_of, MessageError, None, Ok, Option, read_on, Reading, reading_after, reading_of, reading_of-append, refl, Request, Result, Session, Some, subst, sym, Tail, true, up_to_fault, with_bodies, ℕ, ◌++◌, ◌∙◌, ◌∷◌, ◌≡◌}
-use Rattle.framing.specs.Reading.Tail.{Partial, Faulty}
+use Rattle.session_laws.proofs.Common.{[], ap, append-nil, append_assoc, arith, Ask, asks_in, asks_of, Bad, BODY_LIMIT, cond-false, cond-true, Err, false, fault_in, fault_of, fault_of_reading, fault_or, Faulty, if_keeps, Ignored, Incoming, incoming_of, is_faulty, is_some, IsBad, IsRequest, List, map, map-append, message_fault_of, MessageError, None, nothing_stands, Ok, Option, Partial, read_on, Reading, reading_after, reading_of, reading_of-append, refl, Request, Result, Session, Some, sym, Tail, true, up_to_fault, with_bodies, ℕ, ◌++◌, ◌∙◌, ◌∷◌, ◌≡◌}
 
 -- ---- messages after messages
 
@@ -25,12 +23,7 @@ joins_in (Err fault ∷ xs) ys = (refl, refl)
 -- the same of bodies
 joins_of : (xs ys : List (List ℕ)) (first : Option MessageError) → message_fault_of xs ≡ first
     → Joins first (asks_of xs) (asks_of ys) (asks_of (xs ++ ys)) (message_fault_of ys) (message_fault_of (xs ++ ys))
-joins_of xs ys first e =
-    let all : List (Result Incoming MessageError) → Type 0 = λ l.
-    Joins first (asks_of xs) (asks_of ys) (asks_in l) (message_fault_of ys) (fault_in l) in
-    subst all (sym (map-append incoming_of xs ys))
-    (subst (λ (m : Option MessageError). Joins m (asks_of xs) (asks_of ys) (asks_in (map incoming_of xs ++ map incoming_of ys))
-    (message_fault_of ys) (fault_in (map incoming_of xs ++ map incoming_of ys))) e (joins_in (map incoming_of xs) (map incoming_of ys)))
+joins_of xs ys first e = rw (← e, map-append incoming_of xs ys) (joins_in (map incoming_of xs) (map incoming_of ys))
 
 -- ---- a reading, and what is read after it
 
@@ -38,12 +31,10 @@ joins_of xs ys first e =
 pub goes_on : (r more : Reading) → fault_of_reading r ≡ None
     → (asks_of (with_bodies r.bodies more).bodies ≡ asks_of r.bodies ++ asks_of more.bodies)
     × (fault_of_reading (with_bodies r.bodies more) ≡ fault_of_reading more)
-goes_on r more h = by (message_fault_of r.bodies) refl h where
-  by : (m : Option MessageError) → message_fault_of r.bodies ≡ m → fault_or m (fault_of r.tail) ≡ None
-      → (asks_of (with_bodies r.bodies more).bodies ≡ asks_of r.bodies ++ asks_of more.bodies)
-      × (fault_of_reading (with_bodies r.bodies more) ≡ fault_of_reading more)
-  by None e h = let j = joins_of r.bodies more.bodies None e in (j.0, ap (λ m. fault_or m (fault_of more.tail)) j.1)
-  by (Some fault) e h = absurd (cc)
+goes_on r more h =
+    let none : message_fault_of r.bodies ≡ None = grind arith in
+    let j = joins_of r.bodies more.bodies None none in
+    (j.0, ap (λ m. fault_or m (fault_of more.tail)) j.1)
 
 -- one with a fault, continued, has the same requests and the same fault
 pub record SameFault (r : Reading) (more : Reading) : Type 0 where
@@ -62,10 +53,7 @@ by_fault bodies tail piece (Some fault) e h =
     }
 by_fault bodies (Partial rest) piece None e h = absurd (cc)
 by_fault bodies (Faulty fault) piece None e h =
-    record {
-      asks = ap asks_of (append-nil bodies);
-      fault = ap (λ l. fault_or (message_fault_of l) (Some fault)) (append-nil bodies);
-    }
+    record { asks = ap asks_of (append-nil bodies); fault = ap (λ l. fault_or (message_fault_of l) (Some fault)) (append-nil bodies) }
 
 pub fault_stays : (r : Reading) (piece : List ℕ) → is_some (fault_of_reading r) ≡ true → SameFault r (reading_after BODY_LIMIT r.tail piece)
 fault_stays r piece h = by_fault r.bodies r.tail piece (message_fault_of r.bodies) refl h

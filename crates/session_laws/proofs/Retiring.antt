@@ -1,29 +1,22 @@
 -- The machine of the program remembers all that has retired since it was loaded or restarted.
-use Rattle.session_laws.proofs.Common.{and_right, [], Accept, AnEvent as Event, answer_to, Answering, ap, arith, assembled, back_of, beat, Beat, beats, Bool, by_success, BySuccess, CameTo as Outcome, Command, concluded, cond, Cut, Debugged, Debuggee, departed, Effect, ended, ends, enough, entered, Err, false, fault_at, first_program, first_run, given, given_of, Happened, histories, if_keeps, inl, inr, Instr, is_ended, is_running, is_success, is_to_end, is_to_stand, just_loaded, leaves, led_to, left, length, length-append, List, looked_at, ltb, makes_move, Mark, marked, marked_by, MatchResult, move_leaves, moved, next_by, next_tick, None, not, Now, of_answer, Ok, on_program, Open, Option, Pending, performed, Program, refl, restarted, Result, resumed, Run, Session, Slice, sliced, SliceEnd, Slicing, Some, start, stays, stopped, stops, subst, suc, success_of, sym, take, take_at, Terms, the_tick, Tick, told, true, Turn, turns_back, undone, undone_by, unless_fault, Wanted, Went, Whole, with_hart, with_list, word_at, written, zero, ℕ, ◌&&◌, ◌++◌, ◌+◌, ◌-◌, ◌∙◌, ◌∷◌, ◌≡◌}
+use Rattle.session_laws.proofs.Common.{[], Accept, and_right, AnEvent as Event, answer_to, Answering, ap, arith, assembled, assembles, back_of, Beat, beat, beats, Bool, by_success, BySuccess, Command, concluded, cond, Cut, Debugged, Debuggee, departed, Effect, ended, enough, entered, Err, false, fault_at, first_program, first_run, given_of, Happened, Has, histories, inl, inr, Instr, is_success, is_to_end, is_to_stand, IsDecoding, IsFetched, just_loaded, leaves, led_to, left, length, length-append, List, looked_at, ltb, Machine, machine_of, makes_move, Mark, marked, marked_by, MatchResult, MemFault, move_leaves, moved, next_by, next_tick, None, Now, of_answer, Ok, on_program, Open, Option, past_left, Pending, performed, Position, Program, refl, restarted, Result, resumed, Run, Session, Slice, sliced, SliceEnd, Slicing, Some, start, stays, stopped, stops, subst, suc, success_of, sym, take, take_at, Terms, the_tick, Tick, told, true, Turn, turns_back, undone, undone_by, unless_fault, Whole, with_hart, with_list, word_at, written, zero, ℕ, ◌&&◌, ◌++◌, ◌+◌, ◌-◌, ◌∙◌, ◌∷◌, ◌≡◌}
 use Rattle.assembler.specs.Placed.{error_of}
 use Rattle.assembler.specs.declared.error.AsmError.{AsmError}
 use Rattle.course.proofs.Standing.{nothing_stands}
-use Rattle.course.specs.Calls.{Kept, StandsFor, nothing_kept}
+use Rattle.course.specs.Calls.{nothing_kept}
 use Rattle.course.specs.Marks.{Retired}
-use Rattle.course.specs.Positions.{IsFetched, Position, past_left}
 use Rattle.debuggee.specs.declared.run.Mark.TheVariants as mark
-use Rattle.debuggee.specs.declared.run.Run.TheVariants as run
-use Rattle.handlers.specs.Launch.{assembles}
-use Rattle.image.specs.declared.fault.MemFault.{MemFault}
 use Rattle.protocol.specs.declared.command.Command.TheVariants as command
 use Rattle.protocol.specs.declared.launch.LaunchArguments.{LaunchArguments}
 use Rattle.rv32i.proofs.Moving.{the_decoding}
-use Rattle.rv32i.specs.Encoding.{IsDecoding}
-use Rattle.rv32i.specs.Machine.{Machine, machine_of}
 use Rattle.session_laws.specs.Intents.{intent_of}
-use Rattle.session_laws.specs.Retiring.{FramesAreOfThePast, IsPast, PastIsRemembered, after_answer, after_move, after_next, and_next, and_retired, asks_to_load, at_address, at_pc, decoded, loads, moved_on, retired_after, retired_by, retired_in, retired_of, without_last}
+use Rattle.session_laws.specs.Retiring.{FramesAreOfThePast, IsPast, PastIsRemembered, after_answer, after_next, and_next, and_retired, asks_to_load, at_address, at_pc, decoded, loads, moved_on, retired_after, retired_by, retired_in, without_last}
 use Rattle.session_laws.proofs.Answered.{by_turn}
 use Rattle.session_laws.proofs.Cases.{by_beat, by_effect, ends_with, enters_at, tells_tick}
 use Rattle.session_laws.proofs.Joined.{answering_debuggee, exits_program, halts_program, NoneBecome, program_of, still_holds, telling_program}
 use Rattle.stepping.proofs.Determined.{one_fetched}
 use Rattle.stepping.proofs.Remembering.{ticks_remember}
 use Rattle.stepping.specs.Past.{IsChanged, Remembers, RemembersPast}
-use Rattle.stepping.specs.declared.goal.Goal.{Goal}
 
 -- ---- the machine stays as it is, but for what no past has
 
@@ -36,27 +29,18 @@ Keeps before after = record {
 }
 
 kept : (before after : Debugged) (retired : List Retired) → Keeps before after → Remembers before retired → Remembers after retired
-kept before after retired k h = record {
-  calls = subst (λ (c : Kept). StandsFor c retired) (sym k.calls) h.calls;
-  count = h.count ∙ sym k.count;
-  past = k.past retired h.past;
-}
+kept before after retired k h = record { calls = rw k.calls h.calls; count = h.count ∙ sym k.count; past = k.past retired h.past }
 
 same : (p : Program) → Keeps p.machine p.machine
 same p = record { calls = refl; count = refl; past = λ _ h. h }
 
 on_past : (f : Program → Program) → ((p : Program) → Keeps p.machine (f p).machine) → (program : Option Program) (retired : List Retired)
     → IsPast program retired → IsPast (on_program f program) retired
-on_past f keeps None retired h = h
-on_past f keeps (Some p) retired h = kept p.machine (f p).machine retired (keeps p) h
+on_past f keeps program retired h = grind (arith, kept, keeps)
 
 -- nothing has retired in a machine that was loaded
 nothing_past : (p : Program) → p.machine.calls ≡ nothing_kept → p.machine.retired ≡ 0 → p.machine.past ≡ [] → IsPast (Some p) []
-nothing_past p calls count past = record {
-  calls = subst (λ (c : Kept). StandsFor c []) (sym calls) nothing_stands;
-  count = sym count;
-  past = subst (λ (l : List Position). RemembersPast l []) (sym past) tt;
-}
+nothing_past p calls count past = record { calls = rw calls nothing_stands; count = sym count; past = rw past tt }
 
 -- ---- a move
 
@@ -77,31 +61,18 @@ added_is d instr f =
 -- where it goes back, it is the last that is undone
 pub last_off : (left : List Retired) (last : Retired) → take (length (left ++ last ∷ []) - 1) (left ++ last ∷ []) ≡ left
 last_off left last =
-    let long = length-append left (last ∷ []) in
-    let fewer : length (left ++ last ∷ []) - 1 ≡ length left = omega (arith, long) in
-    ap (λ (n : ℕ). take n (left ++ last ∷ [])) fewer ∙ take_at left (last ∷ []) (length left) refl
-
-looked_count : (g : Goal) (d : Debugged) → (looked_at g d).retired ≡ d.retired
-looked_count g d = grind arith
+    let fewer : length (left ++ last ∷ []) - 1 ≡ length left = omega (arith, length-append left (last ∷ [])) in
+    rw fewer (take_at left (last ∷ []) (length left) refl)
 
 -- how many have retired says which of them
 changed_by : (d : Debugged) (retired left : List Retired) → IsChanged d retired left
     → (length left ≡ length retired → left ≡ retired) × (length left ≡ length retired + 1 → left ≡ retired ++ at_pc d)
     × (length retired ≡ length left + 1 → left ≡ take (length retired - 1) retired)
-changed_by d retired left (inl none) = (λ _. none, λ e. absurd (grind arith), λ e. absurd (grind arith))
+changed_by d retired left (inl none) = grind arith
 changed_by d retired left (inr (inl (instr, (f, is)))) =
-    let one : List Retired = record { instr = instr; pc = d.hart.pc } ∷ [] in
-    let more : length left ≡ length retired + 1 = ap length is ∙ length-append retired one in (
-      λ e. absurd (omega (arith, e, more)),
-      λ _. is ∙ ap (λ (xs : List Retired). retired ++ xs) (added_is d instr f),
-      λ e. absurd (omega (arith, e, more)),
-    )
+    let more = length-append retired (record { instr = instr; pc = d.hart.pc } ∷ []) in grind (arith, is, more, added_is d instr f)
 changed_by d retired left (inr (inr (last, is))) =
-    let fewer : length retired ≡ length left + 1 = ap length is ∙ length-append left (last ∷ []) in (
-      λ e. absurd (omega (arith, e, fewer)),
-      λ e. absurd (omega (arith, e, fewer)),
-      λ _. sym (ap (λ (l : List Retired). take (length l - 1) l) is ∙ last_off left last),
-    )
+    grind (arith, is, length-append left (last ∷ []), last_off left last)
 
 moved_past : (p : Program) (retired : List Retired) → p.machine.check_due ≡ false → stays (next_tick p).outcome ≡ false
     → Remembers p.machine retired → Remembers (moved p).machine (moved_on p.machine retired)
@@ -120,9 +91,9 @@ moved_past p retired due goes h = by (turns_back p.machine.goal) refl where
   undoes : (past : List Position) → p.machine.past ≡ past → turns_back p.machine.goal ≡ true
       → (moved p).machine.retired ≡ (undone_by past p.machine).retired
   undoes past e turns =
+      let looked : (looked_at p.machine.goal (undone p.machine)).retired ≡ (undone p.machine).retired = grind arith in
       ap (λ (d : Debugged). d.retired) (back_of p.machine (moved p).machine (Ok (next_tick p)) due turns (the_tick p.machine).is).1
-      ∙ looked_count p.machine.goal (undone p.machine)
-      ∙ ap (λ (l : List Position). (undone_by l p.machine).retired) e
+      ∙ looked ∙ ap (λ (l : List Position). (undone_by l p.machine).retired) e
 
   back : (past : List Position) → p.machine.past ≡ past → turns_back p.machine.goal ≡ true
       → Remembers (moved p).machine (without_last past retired)
@@ -153,26 +124,17 @@ Past s b = (retired : List Retired) → IsPast (program_of s) retired
 leaves_past : (s : Session) (b : Beat) (p q : Program) → program_of s ≡ Some p → b.moved ≡ 0
     → program_of (performed histories b.acts s) ≡ Some q → Keeps p.machine q.machine → Past s b
 unfolding Past
-leaves_past s b p q is none after keeps retired h =
-    subst (λ (n : ℕ). IsPast (program_of (performed histories b.acts s)) (and_next n (program_of s) retired)) (sym none)
-    (subst (λ (x : Option Program). IsPast x retired) (sym after)
-    (kept p.machine q.machine retired keeps (subst (λ (x : Option Program). IsPast x retired) is h)))
-
-concluded_keeps : (outcome : Outcome) (p : Program) → Keeps p.machine (concluded outcome (told p)).machine
-concluded_keeps Went p = same p
-concluded_keeps _ p = same p
+leaves_past s b p q is none after keeps retired h = rw (none, after) (kept p.machine q.machine retired keeps (rw is at h))
 
 tick_past : (s : Session) (p : Program) (tick : Tick) → program_of s ≡ Some p → Past s (tells_tick s.now p tick)
 tick_past s p tick is =
     leaves_past s (tells_tick s.now p tick) p (concluded tick.outcome (told p)) is refl (telling_program s.now p tick s)
-    (concluded_keeps tick.outcome p)
+    (grind arith)
 
 retire_past : (s : Session) (p : Program) → program_of s ≡ Some p → p.machine.check_due ≡ false → stays (next_tick p).outcome ≡ false
     → Past s (makes_move s.now p)
 unfolding Past
-retire_past s p is due goes retired h =
-    subst (λ (x : Option Program). IsPast (Some (moved p)) (after_move x retired)) (sym is)
-    (moved_past p retired due goes (subst (λ (x : Option Program). IsPast x retired) is h))
+retire_past s p is due goes retired h = rw is (moved_past p retired due goes (rw is at h))
 
 beat_past : (s : Session) (more : Bool) → Past s (beat (histories.see s) more)
 unfolding Past
@@ -203,32 +165,18 @@ slice_past n (suc k) s retired h =
 -- ---- an answer
 
 marked_keeps : (r : Run) (m : Mark) (p : Program) → Keeps p.machine (marked_by r m p).machine
-marked_keeps run.Running m p = same p
-marked_keeps _ m p = same p
-
-departed_keeps : (ends stands : Bool) (p : Program) → Keeps p.machine (departed ends stands (left p)).machine
-departed_keeps ends stands p =
-    if_keeps (λ (q : Program). Keeps p.machine q.machine) (ends && not (is_ended (left p).run)) _ _ (λ _. same p)
-    (λ _. if_keeps (λ (q : Program). Keeps p.machine q.machine) (stands && is_running (left p).run) _ _ (λ _. same p) (λ _. same p))
-
-listed_keeps : (c : Command) (list : List Wanted) (p : Program) → Keeps p.machine (with_list c list p).machine
-listed_keeps (command.SetBreakpoints arguments) list p = same p
-listed_keeps other list p = same p
+marked_keeps r m p = grind arith
 
 written_keeps : (address : ℕ) (bytes : List ℕ) (p : Program) → Keeps p.machine (written address bytes p).machine
 written_keeps address bytes p = record {
   calls = refl;
   count = refl;
-  past = by (fault_at p.machine.memory 1 address (length bytes));
-} where
-  by : (fault : Option MemFault) (retired : List Retired) → RemembersPast p.machine.past retired
-      → RemembersPast (past_left (unless_fault fault (tt {0})) p.machine.past) retired
-  by None retired h = tt
-  by (Some fault) retired h = h
+  past = λ retired h. elim (fault_at p.machine.memory 1 address (length bytes)) as
+      (λ fault. RemembersPast (past_left (unless_fault fault (tt {0})) p.machine.past) retired) [ None ↦ tt | Some fault ↦ h ];
+}
 
 reloaded_past : (program : Option Program) → IsPast (on_program (λ p. first_run (restarted p)) program) []
-reloaded_past None = refl
-reloaded_past (Some p) = nothing_past (first_run (restarted p)) refl refl refl
+reloaded_past program = grind (arith, nothing_past)
 
 -- what has retired once a request was answered, by whether it loads
 abbrev Then : Now → Bool → Answering → Type 0
@@ -251,13 +199,12 @@ stay now terms = record {
   restarts = λ loading. absurd (cc);
   terminates = λ _. on_past (ended None) same now.debuggee.program;
   leaves = λ arguments _. on_past (λ p. departed (is_to_end terms arguments) (is_to_stand terms arguments) (left p))
-      (departed_keeps (is_to_end terms arguments) (is_to_stand terms arguments)) now.debuggee.program;
+      (λ p. grind arith) now.debuggee.program;
   pauses = λ _ _. on_past (marked mark.Pause) (λ p. marked_keeps p.run mark.Pause p) now.debuggee.program;
   stepped = λ _ _ g _. on_past (resumed g) same now.debuggee.program;
-  absent = λ _ _ _ _ _ h. h;
   refused = λ _ _ _ _ _ _ h. h;
   sets_none = λ _ _ _ _ _ _ _ _ _ h. h;
-  sets_list = λ c _ _ _ list _ _ _ _ _. on_past (with_list c list) (listed_keeps c list) now.debuggee.program;
+  sets_list = λ c _ _ _ list _ _ _ _ _. on_past (with_list c list) (λ p. grind arith) now.debuggee.program;
   shows = λ _ _ _ _ _ _ _ _ _ _ h. h;
   sets_register = λ _ _ setting _ _ _ _.
       on_past (with_hart setting.hart) (λ p. record { calls = refl; count = refl; past = λ _ _. tt }) now.debuggee.program;
@@ -272,19 +219,19 @@ launched now terms arguments text None retired h =
     nothing_past (just_loaded (assembled text) arguments.program arguments.stop_on_entry now.size) refl refl refl
 launched now terms arguments text (Some error) retired h = h
 
-success_past : (now : Now) (terms : Terms) (file : Option (List ℕ)) (c : Command)
+success_past : (now : Now) (terms : Terms) (file : Option (List ℕ)) (c : Command) → Has (given_of now) c
     → Then now (loads (intent_of c)) (success_of (given_of now) terms file c)
-success_past now terms None (command.Launch arguments) = λ _ h. h
-success_past now terms (Some text) (command.Launch arguments) = launched now terms arguments text (error_of text now.size)
-success_past now terms file command.Restart = λ _ _. reloaded_past now.debuggee.program
-success_past now terms file c = by_success (given_of now) terms (Stays now) (stay now terms) file c refl
+success_past now terms None (command.Launch arguments) there = λ _ h. h
+success_past now terms (Some text) (command.Launch arguments) there = launched now terms arguments text (error_of text now.size)
+success_past now terms file command.Restart there = λ _ _. reloaded_past now.debuggee.program
+success_past now terms file c there = by_success (given_of now) terms (Stays now) (stay now terms) file c there refl
 
 answer_past : (now : Now) (terms : Terms) (file : Option (List ℕ)) (p : Pending)
     → Then now (asks_to_load p.ask) (answer_to now terms file p)
 answer_past now terms file p =
     of_answer (λ ask answer. Then now (asks_to_load ask) answer) now terms file p.ask p.fate
     (λ refusal _ retired h. subst (λ (b : Bool). IsPast now.debuggee.program (cond b [] retired)) (sym (and_right (asks_to_load p.ask) false refl)) h)
-    (λ r taken meets. success_past now terms file r.command)
+    (λ r taken meets. success_past now terms file r.command meets.loaded)
 
 -- ---- an event
 
@@ -313,7 +260,7 @@ other_past e s retired h = by_effect s (Unless s retired) (record {
   accepts = λ piece _. still_holds (λ program. IsPast program retired) (Accept piece ∷ []) s tt h;
   turns = λ file is. subst (IsPast (program_of (Effect s (Turn file)))) is (turn_past file s retired h);
   slices = λ _ _. h;
-  holds = λ _. on_past (marked mark.Hold) (λ p. marked_keeps p.run mark.Hold p) (program_of s) retired h;
+  holds = λ _. on_past (marked mark.Hold) (λ p. grind arith) (program_of s) retired h;
   takes = λ _ _. h;
   drops = λ _ _ _. on_past left same (program_of s) retired h;
 }) (λ n is. subst (IsPast (program_of (sliced histories n s).state)) is (slice_past n (enough n) s retired h)) e
@@ -337,14 +284,11 @@ all_past [] s retired h = h
 all_past (x ∷ happened) s retired h = all_past happened (leaves s x) (retired_by s x retired) (each_past x s retired h)
 
 first_past : (program : Option (List ℕ × List ℕ)) (size : ℕ) → IsPast (first_program program size) []
-first_past None size = refl
-first_past (Some program) size = nothing_past (given program.0 program.1 size) refl refl refl
+first_past program size = grind (arith, nothing_past)
 
 pub past_is_remembered : PastIsRemembered
 past_is_remembered from events = all_past events (start from) [] (first_past from.program from.size)
 
 pub frames_are_of_the_past : FramesAreOfThePast
 frames_are_of_the_past from events p is =
-    let h : IsPast (Some p) (retired_of from events) = subst (λ (x : Option Program). IsPast x (retired_of from events)) is
-    (past_is_remembered from events) in
-    ap (λ (calls : List ℕ). p.machine.hart.pc ∷ calls) h.calls.calls
+    let h = rw is at (past_is_remembered from events) in ap (λ (calls : List ℕ). p.machine.hart.pc ∷ calls) h.calls.calls

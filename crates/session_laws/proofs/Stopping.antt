@@ -1,33 +1,24 @@
 -- A slice stops where a run stops.
-use Rattle.session_laws.proofs.Common.{[], Act, ap, arith, beat, Beat, beat_by, beat_of, beats, Bool, CameTo as Outcome, concluded, cond, Debugged, Ended, ended, entered, entry_checked, entry_tick, false, GoOn, histories, hit_at_pc, if_keeps, IfSome, Instr, is_configuring, is_runnable_by, is_running, IsTick, IsTrue, List, ltb, makes_move, move_leaves, moved, next_by, next_tick, None, not, number_after, Ok, Option, outcome_of, owing, owing_by, performed, Program, refl, Result, Run, run_after, run_left, Says, Session, Settles, sliced, SliceEnd, Slicing, Some, stays, stopped, Stopped, subst, suc, sym, telling, the_tick, Tick, tick_of_entry, told, true, turns_back, Went, Why, zero, ℕ, ℤ, ◌&&◌, ◌*◌, ◌+◌, ◌∙◌, ◌≡◌}
-use Rattle.std.specs.declared.alloc.AllocError.{AllocError}
-use Rattle.breakpoints.specs.declared.breakpoint.Hit.{Hit}
+use Rattle.session_laws.proofs.Common.{[], Act, AllocError, ap, arith, beat, Beat, beat_by, beat_of, beats, Bool, by_tick, CameTo as Outcome, concluded, cond, Debugged, ended, Ended, entered, entry_checked, entry_tick, false, GoOn, histories, if_keeps, IfSome, is_configuring, is_runnable_by, is_running, IsTick, List, ltb, makes_move, Met, move_leaves, moved, next_by, next_tick, None, not, number_after, Ok, Option, owing, owing_by, performed, Program, refl, Result, Run, run_after, run_left, Says, Session, sliced, SliceEnd, Slicing, Some, stays, Stopped, stopped, subst, suc, sym, telling, the_tick, Tick, tick_of_entry, tick_of_move, told, true, turns_back, Went, Why, zero, ℕ, ℤ, ◌&&◌, ◌*◌, ◌+◌, ◌∙◌, ◌≡◌}
 use Rattle.debuggee.proofs.Advancing.{going_names_none}
 use Rattle.debuggee.specs.declared.run.Run.TheVariants as run
-use Rattle.debuggee.specs.declared.run.Why.TheVariants as why
-use Rattle.rv32i.specs.declared.stepped.Stepped.{Stepped}
-use Rattle.rv32i.specs.declared.stepped.Stepped.TheVariants as stepped
 use Rattle.session.specs.declared.event.SliceEnd.TheVariants as ending
 use Rattle.session_laws.specs.Stopping.{SaysWhere, SaysWhereIn, SlicesStopThere, StaysAs, machine_told, next_number}
-use Rattle.stepping.proofs.Cases.{by_tick, tick_of_move}
-use Rattle.session_laws.proofs.Cases.{by_beat, enters_at, StopsFor, tells_tick}
+use Rattle.session_laws.proofs.Cases.{by_beat, by_slicing, enters_at, StopsFor, tells_tick}
 use Rattle.session_laws.proofs.Joined.{exits_program, halts_program, program_of, slices_end, telling_program}
 use Rattle.stepping.proofs.Advancing.{after_goal}
 use Rattle.stepping.proofs.Ticking.{ticks_say_where}
-use Rattle.stepping.specs.Stopping.{NoneBelow, StopsAt}
+use Rattle.stepping.specs.Stopping.{NoneBelow}
 
 -- ---- the ticks of a run that continues
 
 -- no reason applies at the number of any of them
 no_entry : (start : Debugged) → start.check_due ≡ false → NoneBelow 1 start
-no_entry start due zero outcome less a = absurd (let no : IsTrue start.check_due = a.0 in let never : true ≡ false = sym no ∙ due in cc)
-no_entry start due (suc k) outcome less a = absurd (omega (arith, less))
+no_entry start due lower outcome less a = absurd (grind arith)
 
 none_at_first : (start : Debugged) → NoneBelow (number_after 0 start) start
-none_at_first start = by start.check_due refl where
-  by : (due : Bool) → start.check_due ≡ due → NoneBelow (cond due 0 1) start
-  by true due = λ lower outcome less. absurd (omega (arith, less))
-  by false due = no_entry start due
+none_at_first start =
+    if_keeps (λ (n : ℕ). NoneBelow n start) start.check_due 0 1 (λ _ lower outcome less. absurd (omega (arith, less))) (no_entry start)
 
 next_after : (due : Bool) (ticks : ℕ) → cond due (suc ticks) (suc (suc ticks)) ≡ suc (cond due ticks (suc ticks))
 next_after due ticks = grind arith
@@ -49,11 +40,6 @@ none_yet (suc ticks) start now forward g =
 abbrev but_logs : List ℕ → Debugged → Debugged
 but_logs logs d = record d { lists = record d.lists { logs = logs } }
 
-settles_so : (logs : List ℕ) (d : Debugged) (instr : Option Instr) (s : Stepped) (tick : Tick) (after : Debugged)
-    → Settles (but_logs logs d) instr s (Ok tick) after → Settles d instr s (Ok tick) after
-settles_so logs d instr stepped.Retired tick after h = h
-settles_so logs d instr _ tick after h = h
-
 -- each tick has a look of its own, so that they do not matter to it
 ticks_so : (logs : List ℕ) (d : Debugged) (tick : Tick) (after : Debugged) → turns_back d.goal ≡ false
     → IsTick (but_logs logs d) (Ok tick) after → IsTick d (Ok tick) after
@@ -65,16 +51,12 @@ ticks_so logs d tick after forward t =
       stepped = m.stepped;
       fetched = m.fetched;
       moved = m.moved;
-      settles = settles_so logs d m.instr m.stepped tick after m.settles;
+      settles = grind (arith, m.settles);
     }))
 
 runs_on : (r : Run) (start : Debugged) (made : ℕ) (d : Debugged) → is_running r ≡ true → NoneBelow (next_number made d) start
     → SaysWhere made r start d
-runs_on run.Running start made d runs none = none
-runs_on _ start made d runs none = absurd (cc)
-
-entry_stays : (hit : Hit) → stays (outcome_of hit false) ≡ false
-entry_stays hit = grind arith
+runs_on r start made d runs none = grind arith
 
 -- ---- how far a slice is, where the run begins with this machine and does not go back
 
@@ -142,19 +124,15 @@ module _ (start : Debugged) (forward : turns_back start.goal ≡ false) where
 
   ticked_says : (made : ℕ) (p : Program) (tick : Tick) → Ticked made p tick → Says made tick.outcome start p.machine
   ticked_says made p tick t =
-      subst (λ (n : ℕ). Says n tick.outcome start p.machine) (sym t.count)
-      (ticks_say_where t.ticks start t.before p.machine tick forward t.goes t.is)
+      rw t.count (ticks_say_where t.ticks start t.before p.machine tick forward t.goes t.is)
 
   -- it says where the run stops once it is told
   owing_says : (made : ℕ) (p : Program) (printed : Option ℤ) (outcome : Outcome)
       → Ticked made p (record { printed = printed; outcome = outcome }) → SaysWhere made (run_after outcome p.run) start p.machine
   owing_says made p printed Went t =
-      runs_on p.run start made p.machine t.running
-      (subst (λ (due : Bool). NoneBelow (cond due made (suc made)) start) (sym t.due)
-      (ticked_says made p (record { printed = printed; outcome = Went }) t).0)
+      runs_on p.run start made p.machine t.running (rw t.due (ticked_says made p (record { printed = printed; outcome = Went }) t).0)
   owing_says made p printed (Stopped reason) t =
-      subst (λ (b : Bool). StopsAt (cond b (suc made) made) (Stopped reason) start) (sym t.stay)
-      (ticked_says made p (record { printed = printed; outcome = Stopped reason }) t).0
+      rw t.stay (ticked_says made p (record { printed = printed; outcome = Stopped reason }) t).0
   owing_says made p printed (Ended code) t = absurd (let no : true ≡ false = t.stay in cc)
 
   -- ---- a beat
@@ -169,9 +147,7 @@ module _ (start : Debugged) (forward : turns_back start.goal ≡ false) where
       → FarBy made s (record { acts = acts; moved = 0; ending = e })
   unfolding FarBy
   still_far made s acts e q is h =
-      let none : made ≡ made + 0 = omega arith in
-      subst (λ (n : ℕ). Far n (program_of (performed histories acts s)) e) none
-      (subst (λ (x : Option Program). Far made x e) (sym is) h)
+      let none : made + 0 ≡ made = omega arith in rw (none, is) h
 
   -- none of the moves that were made met a reason
   none_by : (made : ℕ) (p : Program) → Going made p → NoneBelow (next_number made p.machine) start
@@ -202,17 +178,14 @@ module _ (start : Debugged) (forward : turns_back start.goal ≡ false) where
   stay_says : (made : ℕ) (p : Program) (outcome : Outcome) → Going made p → p.machine.check_due ≡ false
       → (next_tick p).outcome ≡ outcome → Says (suc made) outcome start (moved p).machine
   stay_says made p outcome g due e =
-      subst (λ (n : ℕ). Says n outcome start (moved p).machine)
-      (sym (ap (λ (b : Bool). cond b made (suc made)) (sym due) ∙ g.count))
-      (subst (λ (o : Outcome). Says (number_after g.ticks start) o start (moved p).machine) e
-      (ticks_say_where g.ticks start g.machine (moved p).machine (next_tick p) forward g.goes
-      (tick_is made p (next_tick p) (moved p).machine g (the_tick p.machine).is)))
+      let counts : suc made ≡ number_after g.ticks start = ap (λ (b : Bool). cond b made (suc made)) (sym due) ∙ g.count in
+      rw (counts, ← e) (ticks_say_where g.ticks start g.machine (moved p).machine (next_tick p) forward g.goes
+      (tick_is made p (next_tick p) (moved p).machine g (the_tick p.machine).is))
 
   stop_says : (made : ℕ) (p : Program) → Going made p → (w : Why) → StopsFor p w
       → SaysWhere made (run.Stopped w) start p.machine
-  stop_says made p g (why.Met reason) h =
-      subst (λ (b : Bool). StopsAt (cond b (suc made) made) (Stopped reason) start) (sym h.2)
-      (stay_says made p (Stopped reason) g h.0 h.1).0
+  stop_says made p g (Met reason) h =
+      rw h.2 (stay_says made p (Stopped reason) g h.0 h.1).0
   stop_says made p g _ h = none_by made p g
 
   retire_far : (made : ℕ) (s : Session) (p : Program) → Going made p → p.machine.check_due ≡ false
@@ -231,7 +204,7 @@ module _ (start : Debugged) (forward : turns_back start.goal ≡ false) where
       (middle_after made (entered p) (entry_tick p.machine)
       (tick_after made made p (entered p) (entry_tick p.machine) g
       (tick_of_entry p.machine (entry_checked p.machine) (Ok (entry_tick p.machine)) due (refl, refl))
-      (ap (λ (b : Bool). cond b made (suc made)) (sym due)) refl refl (entry_stays (hit_at_pc p.machine))) refl)
+      (ap (λ (b : Bool). cond b made (suc made)) (sym due)) refl refl (grind arith)) refl)
 
   -- what is owed is told
   told_machine : (p : Program) → p.machine.lists.ids ≡ [] → (told p).machine ≡ but_logs [] p.machine
@@ -246,7 +219,7 @@ module _ (start : Debugged) (forward : turns_back start.goal ≡ false) where
       (goes_after made p (told p) printed [] t (told_machine p (going_names_none t.before p.machine tick refl t.is)) refl)
   tick_far made s p printed (Stopped reason) t =
       let tick : Tick = record { printed = printed; outcome = Stopped reason } in
-      still_far made s (telling s.now p tick) (Some ending.Stopped) (stopped (why.Met reason) (told p)) (telling_program s.now p tick s)
+      still_far made s (telling s.now p tick) (Some ending.Stopped) (stopped (Met reason) (told p)) (telling_program s.now p tick s)
       (refl, owing_says made p printed (Stopped reason) t)
   tick_far made s p printed (Ended code) t = absurd (let no : true ≡ false = t.stay in cc)
 
@@ -302,9 +275,7 @@ module _ (start : Debugged) (forward : turns_back start.goal ≡ false) where
   owes_none : (program : Option Program) (e : Option SliceEnd) (made : ℕ) → (e ≡ None → ⊥) → Far made program e
       → IfSome program (λ q. q.owed ≡ None)
   unfolding Far
-  owes_none None e made ended h = tt
-  owes_none (Some p) None made ended h = absurd (ended refl)
-  owes_none (Some p) (Some e) made ended h = h.0
+  owes_none program e made ended h = grind arith
 
 -- ---- a slice begins
 
@@ -358,8 +329,7 @@ none_first s p owed owes is runs =
       none_at (Some tick) = none_at_first (told p).machine
 
 told_forward : (p : Program) (owed : Option Tick) → turns_back p.machine.goal ≡ false → turns_back (machine_told owed p).goal ≡ false
-told_forward p None h = h
-told_forward p (Some tick) h = h
+told_forward p owed h = grind arith
 
 slices_go : (s : Session) (p : Program) (n count : ℕ) → program_of s ≡ Some p → is_running (run_left p.owed p.run) ≡ true
     → turns_back p.machine.goal ≡ false
@@ -399,18 +369,11 @@ beat_stands r (Some p) s more still is h = by p.owed h where
   by (Some tick) e =
       (refl, subst (StaysAs r) (sym (telling_program s.now p tick s)) (concluded_run tick.outcome p ∙ e))
 
-next_stands : (n : ℕ) (r : Run) (d : Slicing Session) (e : Option SliceEnd) → is_running r ≡ false → Stands r d
-    → Stands r (next_by histories n e d)
-next_stands n r d (Some e) still h = h
-next_stands n r d None still h =
-    let b = beat_stands r (program_of d.state) d.state (ltb d.moved n) still refl h.1 in
-    let before = h.0 in let none = b.0 in (omega (arith, before, none), b.1)
-
 slices_stand : (n count : ℕ) (s : Session) (r : Run) → is_running r ≡ false → StaysAs r (program_of s)
     → Stands r (beats histories n count s)
-slices_stand n zero s r still h = (refl, h)
-slices_stand n (suc k) s r still h =
-    next_stands n r (beats histories n k s) (beats histories n k s).ending still (slices_stand n k s r still h)
+slices_stand n count s r still h = by_slicing n (Stands r) (λ d _ x.
+    let b = beat_stands r (program_of d.state) d.state (ltb d.moved n) still refl x.1 in
+    let before = x.0 in let none = b.0 in (omega (arith, before, none), b.1)) count s (refl, h)
 
 pub slices_stop_there : (s : Session) → SlicesStopThere s
 slices_stop_there s = record {

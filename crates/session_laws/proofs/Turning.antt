@@ -1,24 +1,15 @@
 -- What is kept by each event, where answers are looked at whole.
-use Rattle.session_laws.proofs.Common.{[], accepting, Act, All-take, AnEvent as Event, answer_to, answering, Answering, answers_next, ap, arith, assembled, at_next_stop, beat, beats, Become, becomes, Beginning, Bool, by_success, BySuccess, CameTo, Close, closing, Command, concludes, Debuggee, departed, Effect, ended, Ended, enough, Err, eqb, Event as IsEvent, exit_events, exits, false, first_address, first_program, first_run, FULL, given_of, GivesBytes, halts, HangUp, Happened, Hart, Has, has_none, has_room, HasImage, HasSignedCode, histories, ids_are_words, if_keeps, IfOk, IfSome, is_active, is_ended, is_running, is_to_end, is_to_stand, IsProperEvent, IsStop, left, length, Link, List, log_event, logged, ltb, ltb-true, map, marked, MatchOption, Message, name_answer, nat_tests, next_by, next_of, next_turn, None, Now, Numbers, of_answer, Ok, on_program, Open, Option, Outcome, outcome_at, output_events, Pending, performed, performed_append, performed_on, Program, reached, Reached, read_on, reason_of, referred, refl, Refusal, replied_on, Response as IsResponse, response_to, restarted, Result, resumed, Run, run_of, said_on, saying, SaysItsRun, seen_in, Session, set_in, set_variable, Setting, setting_of, SetVariableArguments, Slice, SliceEnd, Some, start, stop_event, stopped, Stopped, subst, suc, sym, Take, take, Target, Tell, telling, tells, Terms, text_of, Tick, told, Told, true, Turn, turn_by, turn_of, value_of, Went, Why, with_hart, with_list, with_program, with_targets, written, zero, ℕ, ℤ, ◌+◌, ◌<◌, ◌^◌, ◌∙◌, ◌∷◌, ◌≡◌, ◌≤◌}
-use Rattle.answers.specs.Targets.{target_of}
+use Rattle.session_laws.proofs.Common.{[], accepting, Act, All-take, AnEvent as Event, answer_to, Answering, answering, ap, AreWords, arith, asks_of, assembled, at_next_stop, beat, Become, becomes, Beginning, Bool, by_success, BySuccess, CameTo, Close, Command, concludes, Debuggee, departed, departed_orderly, Effect, ended, ended_orderly, enough, entered_orderly, eqb, Event as IsEvent, exit_events, exit_is_proper, exits, false, first_address, first_program, first_run, first_run_orderly, given_of, GivesBytes, halts, HangUp, Happened, Hart, hart_orderly, Has, has_none, has_room, HasImage, HasSignedCode, histories, ids_are_words, if_keeps, IfOk, IfSome, is_active, is_ended, is_running, is_to_end, is_to_stand, IsByte, IsProperEvent, IsWord, left, left_orderly, Limits, Link, List, listed_orderly, loaded_orderly, log_event, log_is_proper, logged, ltb, ltb-true, map, marked, marked_orderly, MatchOption, Message, moved_orderly, name_answer, named_are_words, nat_tests, next_fits, next_of, None, Now, Numbers, of_answer, Ok, on_program, Open, Option, Orderly, OrderlyIn, OrderlyOf, outcome_at, output_events, output_is_proper, owed_fits, Pending, performed, performed_append, performed_on, Program, Reached, reached, read_on, referred, refl, Refusal, Registers, replied_on, Response as IsResponse, response_to, restarted, restarted_orderly, Result, resumed, resumed_orderly, Run, run_events, run_of, said_on, saying, SaysItsRun, seen_in, Session, set_in, set_variable, Setting, setting_of, SetVariableArguments, Slice, Some, start, stop_event, stop_is_proper, stopped, stopped_orderly, subst, sym, Take, take, Target, target_of, Tell, telling, tells, Terms, Tick, Told, told, told_orderly, true, value_of, Why, with_hart, with_list, with_orderly, with_program, with_targets, written, written_orderly, ℕ, ℤ, ◌+◌, ◌<◌, ◌^◌, ◌∙◌, ◌∷◌, ◌≡◌, ◌≤◌}
 use Rattle.assembler.proofs.Narrow.{assembled_is_narrow}
 use Rattle.debuggee.specs.declared.run.Mark.TheVariants as mark
 use Rattle.debuggee.specs.declared.run.Run.TheVariants as run
-use Rattle.debuggee.specs.declared.run.Why.TheVariants as why
-use Rattle.handlers.specs.ConfigurationDone.{run_events}
-use Rattle.handlers.specs.Sizes.{is_size}
 use Rattle.range_laws.proofs.Images.{assembled_is_in_range}
 use Rattle.range_laws.proofs.Settings.{registers_stay_in_range, texts_give_words}
 use Rattle.range_laws.specs.Debugging.{HartInRange}
-use Rattle.range_laws.specs.Machines.{IsByte, IsWord}
 use Rattle.rv32i.specs.Laws.{IsSignedWord}
-use Rattle.session.proofs.Orderly.{AreWords, Orderly, OrderlyIn, OrderlyOf, departed_orderly, ended_orderly, entered_orderly, exit_is_proper, first_run_orderly, hart_orderly, written_orderly, ids_are_words as named_are_words, left_orderly, listed_orderly, loaded_orderly, log_is_proper, marked_orderly, moved_orderly, next_fits, output_is_proper, owed_fits, restarted_orderly, resumed_orderly, stop_is_proper, stopped_orderly, told_orderly, with_orderly}
-use Rattle.session.specs.Limits.{are_limits}
-use Rattle.session.specs.declared.limits.Limits.{Limits}
-use Rattle.session_laws.proofs.Asked.{AreRead, IsRead, asks_that_wait, joined_are_read}
-use Rattle.session_laws.proofs.ByForms.{accepts_by, hangs_by, on, on_with, opens_by, said_by, with_change}
-use Rattle.session_laws.proofs.Cases.{by_beat, by_event}
-use Rattle.variables.specs.declared.target.Target.TheVariants as target
+use Rattle.session_laws.proofs.Asked.{AreRead, asks_are_read, IsRead, asks_that_wait, joined_are}
+use Rattle.session_laws.proofs.ByForms.{accepts_by, after_answer, opens_by, on, on_with, said_by, with_change}
+use Rattle.session_laws.proofs.Cases.{by_beat, by_beats, by_event, each_turn, EachTurn}
 
 -- numbers of references that are among those that may be issued
 abbrev pub AreGiven : Numbers → Type 0
@@ -65,8 +56,7 @@ logs_tellable d (text ∷ texts) = ((log_is_proper text, tt), logs_tellable d te
 
 output_tellable : (d : Debuggee) (printed : Option ℤ) (texts : List (List ℕ)) → AllTellable d (output_events printed texts)
 unfolding Tellable
-output_tellable d None texts = logs_tellable d texts
-output_tellable d (Some number) texts = ((output_is_proper number, tt), logs_tellable d texts)
+output_tellable d printed texts = grind (arith, logs_tellable d texts, output_is_proper)
 
 -- ---- an answer leaves an orderly program, and numbers that may be issued
 
@@ -90,25 +80,20 @@ makes now f keeps h = with_orderly f keeps now.debuggee.program h
 -- a hart in which a register was set is in range
 setting_fits : (hart : Hart) (number : Result ℕ Refusal) (value : Option ℕ) → HartInRange hart → IfSome value IsWord
     → IfOk (setting_of hart number value) (λ setting. HartInRange setting.hart)
-setting_fits hart (Err refusal) value h w = tt
-setting_fits hart (Ok number) None h w = tt
-setting_fits hart (Ok zero) (Some value) h w = h
-setting_fits hart (Ok (suc number)) (Some value) h w = record { pc = h.pc; x = registers_stay_in_range hart.x (suc number) value w h.x }
+setting_fits hart number value h w = grind (arith, registers_stay_in_range)
 
 set_fits : (arguments : SetVariableArguments) (p : Program) (found : Result Target Refusal) → Orderly p
     → IfOk (set_in arguments p.machine found) (λ setting. HartInRange setting.hart)
-set_fits arguments p (Ok target.Registers) h =
+set_fits arguments p (Ok Registers) h =
     let m = h.range.machine.machine in
     setting_fits p.machine.hart (name_answer arguments.name) (value_of arguments.value) (record { pc = m.pc; x = m.x })
     (texts_give_words arguments.value)
-set_fits arguments p (Ok _) h = tt
-set_fits arguments p (Err refusal) h = tt
+set_fits arguments p _ h = tt
 
 -- a program runs so, if there is one, once this is made of it
 pub runs_as : (P : Run → Type 0) (f : Program → Program) (program : Option Program) → has_none (run_of program) ≡ false
     → ((p : Program) → P (f p).run) → MatchOption (on_program f program) ⊥ (λ p. P p.run)
-runs_as P f None there h = absurd (cc)
-runs_as P f (Some p) there h = h p
+runs_as P f program there h = grind (arith, h)
 
 -- how a program runs that was joined
 run_is_told : (program : Option Program) (last_break : ℕ)
@@ -118,13 +103,7 @@ run_is_told None last_break = tt
 run_is_told (Some p) last_break = by p.run refl where
   by : (r : Run) → p.run ≡ r → AllTellable (record { program = Some p; last_break = last_break }) (run_events (Some r))
   by run.Running e = ((refl, ap is_running e), tt)
-  by (run.Stopped why) e = (
-    (
-      stop_is_proper why [] tt,
-      subst (IsStop (record { hit_breakpoint_ids = []; reason = reason_of why; text = text_of why })) (sym e) (refl, refl),
-    ),
-    tt,
-  )
+  by (run.Stopped why) e = ((stop_is_proper why [] tt, rw e (refl, refl)), tt)
   by (run.Ended code) e = tt
 
 -- the answer to a request that has the program that it asks for, and whose bytes are bytes
@@ -147,8 +126,7 @@ module _ (now : Now) (terms : Terms) (b : BoundsIn now) (h : OrderlyIn now.debug
   register_set : (arguments : SetVariableArguments) (p : Program) (setting : Setting) → now.debuggee.program ≡ Some p
       → set_variable arguments p.machine now.numbers ≡ Ok setting → HartInRange setting.hart
   register_set arguments p setting is e =
-      subst (λ (r : Result Setting Refusal). IfOk r (λ s. HartInRange s.hart)) e
-      (set_fits arguments p (target_of now.numbers arguments.variables_reference) (subst OrderlyOf is h))
+      rw e at (set_fits arguments p (target_of now.numbers arguments.variables_reference) (subst OrderlyOf is h))
 
   successes_orderly : BySuccess (given_of now) terms (LeavesTaken now)
   unfolding Tellable
@@ -176,7 +154,6 @@ module _ (now : Now) (terms : Terms) (b : BoundsIn now) (h : OrderlyIn now.debug
         (λ p o. departed_orderly (is_to_end terms arguments) (is_to_stand terms arguments) (left p) (left_orderly p o));
     pauses = λ _ _ _. makes_so (marked mark.Pause) (marked_orderly mark.Pause);
     stepped = λ _ _ g _ _. ends_stop (resumed g) (resumed_orderly g);
-    absent = λ _ _ _ _ _. same;
     refused = λ _ _ _ _ _ _. same;
     sets_none = λ _ _ _ _ _ _ _ _ _. same;
     sets_list = λ c _ p _ list _ _ f within _ _. (
@@ -200,7 +177,7 @@ pub answer_orderly : (now : Now) (terms : Terms) (file : Option (List ℕ)) (p :
 answer_orderly now terms file p read b h =
     of_answer (λ ask answer. IsRead ask → Leaves now answer) now terms file p.ask p.fate (λ refusal _ _. (h, b.numbers, tt))
     (λ r taken meets is. by_success (given_of now) terms (LeavesTaken now) (successes_orderly now terms b h) file r.command meets.loaded
-    is.1.1) read
+    meets.loaded is.1.1) read
 
 -- ---- what follows an answer
 
@@ -224,26 +201,21 @@ tells_all P tells d [] s is told h = h
 tells_all P tells d (e ∷ es) s is told h =
     tells_all P tells d es (performed_on (Tell e) s) (said_debuggee s.now.link (IsEvent e) s.now.arrivals.pending s ∙ is) told.1
     (said_by P s.now.link (IsEvent e) s.now.arrivals.pending s
-    (λ l few x. tells l e s told.0.0 (subst (λ (x : Debuggee). SaysItsRun (IsEvent e) x) (sym is) told.0.1) few x) h)
+    (λ l few x. tells l e s told.0.0 (rw is told.0.1) few x) h)
 
 -- What is kept where an event is told and where the connection takes nothing more is so after an answer, if it is so once that is queued.
-module _ (P : Session → Type 0) (tells_one : KeptByTelling P)
-    (hangs_up : (l : Link) (s : Session) → P (on (Some l) s) → P (performed_on HangUp (on (Some l) s))) where
-  closes_after : (closes : Bool) (s : Session) → P s → P (performed histories (closing closes) s)
-  closes_after true s h = hangs_by P s.now.link s (λ l x. hangs_up l s x) h
-  closes_after false s h = h
-
-  pub once_answered : (l : Link) (p : Pending) (rest : List Pending) (s : Session) (a : Answering) → AllTellable a.debuggee a.events
-      → (l.seq < s.now.limits.last_seq
-      → P (saying (agreed_with l a) (IsResponse (response_to p.ask a.outcome)) rest (changed l (p ∷ rest) s a)))
-      → P (changed l (p ∷ rest) s a) → P (performed histories (answering a) (on_with (Some l) (p ∷ rest) s))
-  once_answered l p rest s a told said unsaid =
-      let t : Session = changed l (p ∷ rest) s a in
-      let replied : Session = replied_on (p ∷ rest) a.outcome t in
-      subst P (sym (performed_append (map Tell a.events) (closing a.closes) replied))
-      (closes_after a.closes (performed histories (map Tell a.events) replied)
-      (tells_all P tells_one a.debuggee a.events replied (said_debuggee t.now.link (IsResponse (response_to p.ask a.outcome)) rest t) told
-      (if_keeps P (ltb l.seq s.now.limits.last_seq) _ _ (λ e. said (ltb-true l.seq s.now.limits.last_seq e)) (λ _. unsaid))))
+pub once_answered : (P : Session → Type 0) → KeptByTelling P
+    → ((l : Link) (s : Session) → P (on (Some l) s) → P (performed_on HangUp (on (Some l) s)))
+    → (l : Link) (p : Pending) (rest : List Pending) (s : Session) (a : Answering) → AllTellable a.debuggee a.events
+    → (l.seq < s.now.limits.last_seq
+    → P (saying (agreed_with l a) (IsResponse (response_to p.ask a.outcome)) rest (changed l (p ∷ rest) s a)))
+    → P (changed l (p ∷ rest) s a) → P (performed histories (answering a) (on_with (Some l) (p ∷ rest) s))
+once_answered P tells_one hangs_up l p rest s a told said unsaid =
+    let t : Session = changed l (p ∷ rest) s a in
+    let replied : Session = replied_on (p ∷ rest) a.outcome t in
+    after_answer P hangs_up a.events a.closes replied
+    (tells_all P tells_one a.debuggee a.events replied (said_debuggee t.now.link (IsResponse (response_to p.ask a.outcome)) rest t) told
+    (if_keeps P (ltb l.seq s.now.limits.last_seq) _ _ (λ e. said (ltb-true l.seq s.now.limits.last_seq e)) (λ _. unsaid)))
 
 -- ---- what is orderly in each state
 
@@ -255,11 +227,9 @@ pub record StaysOrderly (s : Session) : Type 0 where
 -- the last number drops those that wait
 said_stays : (l : Link) (m : Message) (rest : List Pending) (s : Session) → AreRead (asks_that_wait rest) → StaysOrderly (on (Some l) s)
     → StaysOrderly (saying l m rest (on (Some l) s))
-said_stays l m rest s r h = record {
-  program = h.program;
-  bounds = h.bounds;
-  asks = if_keeps (λ (x : List Pending). AreRead (asks_that_wait x)) (eqb (l.seq + 1) s.now.limits.last_seq) [] rest (λ _. tt) (λ _. r);
-}
+said_stays l m rest s r h =
+    assumption (if_keeps (λ (x : List Pending). AreRead (asks_that_wait x)) (eqb (l.seq + 1) s.now.limits.last_seq) [] rest
+    (λ _. tt) (λ _. r))
 
 answer_stays : (l : Link) (p : Pending) (rest : List Pending) (s : Session) (a : Answering) → let t = on_with (Some l) (p ∷ rest) s in
     Leaves t.now a → StaysOrderly t → StaysOrderly (performed histories (answering a) t)
@@ -275,12 +245,6 @@ answer_stays l p rest s a leaves h =
     (λ _. said_stays (agreed_with l a) (IsResponse (response_to p.ask a.outcome)) rest (changed l (p ∷ rest) s a) h.asks.1 after) after
 
 -- limits that are right
-memory_ends : (size : ℕ) → is_size size ≡ true → first_address + size < 2 ^ 32
-memory_ends size h = grind (arith, nat_tests)
-
-few_references : (limits : Limits) → are_limits limits ≡ true → limits.last_ref ≤ 2147483647
-few_references limits h = grind (arith, nat_tests)
-
 begins_orderly : (given : Option (List ℕ × List ℕ)) (size : ℕ) → first_address + size < 2 ^ 32 → HasImage given size
     → OrderlyOf (first_program given size)
 begins_orderly None size ends image = tt
@@ -290,8 +254,8 @@ begins_orderly (Some g) size ends image =
 -- it is so at the start
 pub begins_so : (from : Beginning) → StaysOrderly (start from)
 begins_so from =
-    let ends = memory_ends from.size from.memory in
-    let few = few_references from.limits from.numbers in
+    let ends : first_address + from.size < 2 ^ 32 = grind (arith, nat_tests, from.memory) in
+    let few : from.limits.last_ref ≤ 2147483647 = grind (arith, nat_tests, from.numbers) in
     let none : 1 + 0 ≤ from.limits.last_ref + 1 = omega arith in
     record {
       program = begins_orderly from.program from.size ends from.image;
@@ -334,9 +298,7 @@ module _ (P : Session → Type 0) (k : KeptByEvents P) where
 
   concludes_keep : (now : Now) (p : Program) (outcome : CameTo) (ids : List ℕ) (s : Session) → Orderly p → HasSignedCode outcome
       → AreWords ids → Both s → Both (performed histories (concludes now p outcome ids) s)
-  concludes_keep now p Went ids s o c w h = h
-  concludes_keep now p (Stopped reason) ids s o c w h = halts_keep now p (why.Met reason) ids s o w h
-  concludes_keep now p (Ended code) ids s o c w h = exits_keep now p code s o c h
+  concludes_keep now p outcome ids s o c w h = grind (arith, halts_keep, exits_keep)
 
   telling_keeps : (p : Program) (tick : Tick) (s : Session) → Orderly p → p.owed ≡ Some tick → Both s
       → Both (performed histories (telling s.now p tick) s)
@@ -348,34 +310,16 @@ module _ (P : Session → Type 0) (k : KeptByEvents P) where
       (concludes_keep s.now (told p) tick.outcome p.machine.lists.ids _ (told_orderly p o) (owed_fits p tick owes o) (named_are_words p o)
       (becomes_keeps s.now (told p) output s (told_orderly p o) (output_tellable now tick.printed (logged p.machine.lists)) h))
 
-  answers_keep : (l : Link) (file : Option (List ℕ)) (pending : List Pending) (s : Session) → let t =
-      on_with (Some l) pending s in Both t → Both (performed histories (next_turn t.now l.terms file pending).acts t)
-  answers_keep l file [] s h = h
-  answers_keep l file (p ∷ rest) s h =
-      let t = on_with (Some l) (p ∷ rest) s in (
-        k.answers l p rest file s h.1.program h.1.bounds h.1.asks h.0,
-        answer_stays l p rest s (answer_to t.now l.terms file p)
-            (answer_orderly t.now l.terms file p h.1.asks.0 h.1.bounds h.1.program) h.1,
-      )
-
-  turn_keeps : (l : Option Link) (file : Option (List ℕ)) (s : Session) → Both (on l s)
-      → Both (performed histories (outcome_at (histories.see (on l s)) l (Turn file)).acts (on l s))
-  turn_keeps None file s h = h
-  turn_keeps (Some l) file s h = by s.now.debuggee.program h.1.program where
-    next : Both (performed histories (answers_next (histories.see (on (Some l) s)) l file).acts (on (Some l) s))
-    next =
-        if_keeps (λ (o : Outcome). Both (performed histories o.acts (on (Some l) s))) (ltb FULL (length s.waiting)) _ _ (λ _. h)
-        (λ _. answers_keep l file s.now.arrivals.pending s h)
-
-    owing : (p : Program) (owed : Option Tick) → p.owed ≡ owed → Orderly p
-        → Both (performed histories (turn_by owed (histories.see (on (Some l) s)) l p file).acts (on (Some l) s))
-    owing p None e o = next
-    owing p (Some tick) e o = telling_keeps p tick (on (Some l) s) o e h
-
-    by : (program : Option Program) → OrderlyOf program
-        → Both (performed histories (turn_of program (histories.see (on (Some l) s)) l file).acts (on (Some l) s))
-    by None o = next
-    by (Some p) o = owing p p.owed refl o
+  turn_keeps : (file : Option (List ℕ)) → EachTurn file (λ s acts. Both s → Both (performed histories acts s))
+  turn_keeps file = record {
+    nothing = λ s h. h;
+    tells = λ l p tick s is owes h. telling_keeps p tick (on (Some l) s) (subst OrderlyOf is h.1.program) owes h;
+    answers = λ l p rest s _ h. let t = on_with (Some l) (p ∷ rest) s in (
+      k.answers l p rest file s h.1.program h.1.bounds h.1.asks h.0,
+      answer_stays l p rest s (answer_to t.now l.terms file p)
+          (answer_orderly t.now l.terms file p h.1.asks.0 h.1.bounds h.1.program) h.1,
+    );
+  }
 
   pub outcome_keeps : (l : Option Link) (e : Event) (s : Session) → Both (on l s)
       → Both (performed histories (outcome_at (histories.see (on l s)) l e).acts (on l s))
@@ -385,13 +329,10 @@ module _ (P : Session → Type 0) (k : KeptByEvents P) where
     accepts = λ piece. accepts_by Both l piece s
         (λ m e x. (
           k.accepts m piece s e x.0,
-          record {
-            program = x.1.program;
-            bounds = x.1.bounds;
-            asks = joined_are_read (read_on s.now piece).bodies s.now.arrivals x.1.asks;
-          },
+          assumption (joined_are IsRead (asks_of (read_on s.now piece).bodies) s.now.arrivals x.1.asks
+              (asks_are_read (read_on s.now piece).bodies)),
         )) h;
-    turns = λ file. turn_keeps l file s h;
+    turns = λ file. each_turn file (λ s acts. Both s → Both (performed histories acts s)) (turn_keeps file) l s h;
     slices = λ _. h;
     holds = became _ (on l s) (with_orderly (marked mark.Hold) (marked_orderly mark.Hold) s.now.debuggee.program h.1.program) h;
     takes = λ n. (k.takes n (on l s) h.0, record { program = h.1.program; bounds = h.1.bounds; asks = h.1.asks });
@@ -416,19 +357,12 @@ module _ (P : Session → Type 0) (k : KeptByEvents P) where
         moves = λ _ _ _ _ _. became _ s (moved_orderly p o) h;
       })
 
-  beats_keep : (n i : ℕ) (s : Session) → Both s → Both (beats histories n i s).state
-  beats_keep n zero s h = h
-  beats_keep n (suc i) s h = by (beats histories n i s).ending (beats_keep n i s h) where
-    by : (e : Option SliceEnd) → Both (beats histories n i s).state → Both (next_by histories n e (beats histories n i s)).state
-    by (Some e) x = x
-    by None x = beat_keeps (beats histories n i s).state (ltb (beats histories n i s).moved n) x
-
   event_keeps : (e : Event) (s : Session) → Both s → Both (Effect s e)
-  event_keeps (Slice n) s h = beats_keep n (enough n) s h
+  event_keeps (Slice n) s h = by_beats Both beat_keeps n (enough n) s h
   event_keeps e s h = outcome_keeps s.now.link e s h
 
   pub both_reached : (from : Beginning) → P (start from) → (happened : List Happened) → Both (Reached from happened)
-  both_reached from h happened = reached Both event_keeps beats_keep from (h, begins_so from) happened
+  both_reached from h happened = reached Both event_keeps (by_beats Both beat_keeps) from (h, begins_so from) happened
 
   pub reached_by_events : (from : Beginning) → P (start from) → (happened : List Happened) → P (Reached from happened)
   reached_by_events from h happened = (both_reached from h happened).0

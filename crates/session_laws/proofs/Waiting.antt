@@ -1,13 +1,9 @@
 -- What is kept of each connection: its bytes, those that were taken and those that wait; the numbers of its messages; and its requests,
 -- of which those that are not answered wait. And the lives are at their numbers.
-use Rattle.std.proofs.lemmas.List.{get_or-append-add}
-use Rattle.session_laws.proofs.Common.{[], All, All-nil, All-push, answered_as, answered_in, AnswersInOrder, ap, append-nil, append_assoc, AreNumberedFrom, arith, asked_as, asked_in, asks_of, Beginning, BODY_LIMIT, Bool, bytes_of, cond, drop, each_life, eqb, Event, EveryByteIsTakenOrWaits, false, fault_of_reading, flat_map, frame_said, get_or, Happened, is_some, length, length-append, Life, life_of, Link, List, LivesAreNumbered, map, map-append, Message, names, nat_tests, no_life, None, NumbersRise, Option, Pending, pending_as, Reached, reached_by_acts, read_on, Reading, reading_of, refl, Response, response_to, Said, said_next, saying, Session, Some, subst, sym, Tail, tail_kept, take, take-append-drop, true, up_to_fault, with_said, with_taken, ℕ, ◌++◌, ◌+◌, ◌<◌, ◌∙◌, ◌∷◌, ◌≡◌}
-use Rattle.session.specs.declared.event.LinkFault.{LinkFault}
+use Rattle.session_laws.proofs.Common.{[], All, All-nil, All-push, answered_as, answered_in, AnswersInOrder, ap, append-nil, append_assoc, AreNumberedFrom, arith, asked_as, asked_in, asks_of, Beginning, BODY_LIMIT, Bool, bytes_of, cond, drop, each_life, eqb, Event, EveryByteIsTakenOrWaits, false, fault_of_reading, flat_map, frame_said, get_or, get_or-append-add, Happened, is_some, IsPrefixOf, length, length-append, Life, life_of, Link, LinkFault, List, LivesAreNumbered, map, map-append, Message, names, nat_tests, no_life, None, nothing_stands, NumbersRise, Option, Pending, pending_as, Reached, reached_by_acts, read_on, Reading, reading_of, refl, Response, response_to, Said, said_next, saying, Session, Some, subst, sym, Tail, tail_kept, take, take-append-drop, up_to_fault, with_said, with_taken, ℕ, ◌++◌, ◌+◌, ◌<◌, ◌∙◌, ◌∷◌, ◌≡◌}
 use Rattle.session_laws.proofs.Reading.{asks_up_to, fault_up_to, none_if, nothing_is_read, nothing_is_wrong, up_to_fault_all, whole, whole_goes_on}
-use Rattle.framing.proofs.Pasts.{nothing_stands}
 use lib.Seq.{drop-nil, take-nil}
 use Rattle.std.proofs.lemmas.List.Concat.{flat_map-append}
-use Rattle.session.specs.Prefixes.{IsPrefixOf}
 use Rattle.session_laws.proofs.Joining.{all_joined_as}
 use Rattle.session_laws.proofs.ByForms.{on, on_with, KeptByAnswers, KeptByOthers, by_forms}
 
@@ -60,20 +56,16 @@ numbered_more n (x ∷ xs) m h e = (h.0, numbered_more (n + 1) xs m h.1 (omega (
 still_wait : (n last : ℕ) (rest : List Pending) → n < last → (let none : List Pending = [] in cond (eqb n last) none rest) ≡ rest
 still_wait n last rest h = let other : eqb n last ≡ false = grind (arith, nat_tests) in rw other refl
 
-still_open : (is_last closing : Bool) → cond is_last true closing ≡ false → closing ≡ false
-still_open is_last closing e = grind arith
-
 -- it answers those that wait no more
 says : (l : Link) (m : Message) (rest : List Pending) (s : Session) → pending_as s.now.arrivals.pending ≡ names m ++ pending_as rest
     → l.seq < s.now.limits.last_seq → Kept (on (Some l) s) → Kept (saying l m rest (on (Some l) s))
 says l m rest s first few h =
     let said : Said = said_next s.now l m in
     let life : Life = with_said s.life said in
-    let now : asked_in life ≡ answered_in life ++ pending_as rest = h.present.rest few ∙ ap (λ x. answered_in s.life ++ x) first
-    ∙ sym (append_assoc (answered_in s.life) (names m) (pending_as rest))
-    ∙ ap (λ x. x ++ pending_as rest) (sym (said_last answered_as s.life.said said)) in
-    let waits : bytes_of life ≡ s.life.taken ++ (s.waiting ++ frame_said said) = said_last frame_said s.life.said said
-    ∙ ap (λ x. x ++ frame_said said) h.present.waits ∙ append_assoc s.life.taken s.waiting (frame_said said) in
+    let now : asked_in life ≡ answered_in life ++ pending_as rest =
+    cc (h.present.rest few, first, append_assoc (answered_in s.life) (names m) (pending_as rest), said_last answered_as s.life.said said) in
+    let waits : bytes_of life ≡ s.life.taken ++ (s.waiting ++ frame_said said) =
+    cc (said_last frame_said s.life.said said, h.present.waits, append_assoc s.life.taken s.waiting (frame_said said)) in
     let e : l.seq ≡ length s.life.said = h.present.counts in
     let next : l.seq + 1 ≡ 1 + length s.life.said = omega (arith, e) in
     record {
@@ -88,9 +80,9 @@ says l m rest s first few h =
       };
       present = record {
         waits = waits;
-        rest = λ left. subst (λ (x : List Pending). asked_in life ≡ answered_in life ++ pending_as x) (sym (still_wait (l.seq + 1) s.now.limits.last_seq rest left)) now;
+        rest = λ left. rw (still_wait (l.seq + 1) s.now.limits.last_seq rest left) now;
         counts = ap (λ n. n + 1) e ∙ sym (length-append s.life.said (said ∷ []));
-        goes_on = λ e. h.present.goes_on (still_open _ l.is_closing e);
+        goes_on = λ e. h.present.goes_on (grind arith);
       };
     }
 
@@ -103,16 +95,9 @@ more_taken : (l : Option Link) (n last : ℕ) (waiting : List ℕ) (pending : Li
     → Present l last waiting pending tail life
     → Lived (with_taken life (take n waiting)) × Present l last (drop n waiting) pending tail (with_taken life (take n waiting))
 more_taken None n last waiting pending tail life h none =
-    let same : life.taken ++ take n waiting ≡ life.taken =
-    ap (λ l. life.taken ++ take n l) none ∙ ap (λ l. life.taken ++ l) (take-nil n) ∙ append-nil life.taken in (
-      record {
-        taken = subst (λ l. IsPrefixOf l (bytes_of life)) (sym same) h.taken;
-        answered = h.answered;
-        numbered = h.numbered;
-        read = h.read;
-      },
-      ap (drop n) none ∙ drop-nil n,
-    )
+    let same : life.taken ++ take n waiting ≡ life.taken = cc (none, take-nil {A = ℕ} n, append-nil life.taken) in
+    let taken : IsPrefixOf (life.taken ++ take n waiting) (bytes_of life) = rw same h.taken in
+    (assumption taken, ap (drop n) none ∙ drop-nil n)
 more_taken (Some l) n last waiting pending tail life h present =
     let waits : bytes_of life ≡ (life.taken ++ take n waiting) ++ drop n waiting = present.waits
     ∙ ap (λ l. life.taken ++ l) (sym (take-append-drop n waiting)) ∙ sym (append_assoc life.taken (take n waiting) (drop n waiting)) in (
@@ -150,18 +135,15 @@ kept = record {
         faulty = sym (fault_up_to s.life.accepted piece ∙ all.1);
         lived = record {
           taken = h.lived.taken;
-          answered = (
-            asked.0 ++ map asked_as asks,
-            more ∙ ap (λ x. x ++ map asked_as asks) asked.1 ∙ append_assoc (answered_in s.life) asked.0 (map asked_as asks),
-          );
+          answered = (asked.0 ++ map asked_as asks, cc (more, asked.1, append_assoc (answered_in s.life) asked.0 (map asked_as asks)));
           numbered = h.lived.numbered;
           read = ap (λ x. x ++ asks) h.lived.read ∙ sym all.0 ∙ sym (asks_up_to s.life.accepted piece);
         };
         present = record {
           waits = h.present.waits;
-          rest = λ few. more ∙ ap (λ x. x ++ map asked_as asks) (h.present.rest few)
-              ∙ append_assoc (answered_in s.life) (pending_as s.now.arrivals.pending) (map asked_as asks)
-              ∙ sym (ap (λ x. answered_in s.life ++ x) (all_joined_as asked_as asks s.now.arrivals));
+          rest = λ few. let joins = all_joined_as asked_as asks s.now.arrivals in
+              let same = append_assoc (answered_in s.life) (pending_as s.now.arrivals.pending) (map asked_as asks) in
+              cc (more, h.present.rest few, same, joins);
           counts = h.present.counts;
           goes_on = λ g.
               let none : fault_of_reading r ≡ None = none_if (fault_of_reading r) g in

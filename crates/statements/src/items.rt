@@ -16,7 +16,7 @@ pub enum Width {
 }
 
 /// An item of data.
-#[derive(Debug, Drop)]
+#[derive(Drop)]
 pub enum Item<'a> {
     /// The address of a label.
     Label(Name<'a>),
@@ -25,7 +25,7 @@ pub enum Item<'a> {
 }
 
 /// A list of items. A contract sees the list.
-#[derive(Debug, Drop)]
+#[derive(Drop)]
 pub struct Items<'a> {
     list: Vec<Item<'a>>,
 }

@@ -6,7 +6,7 @@ use crate::statement::Statement;
 use std::marker::Model;
 
 /// The labels of a line. A contract sees the list of their names.
-#[derive(Debug, Drop)]
+#[derive(Drop)]
 pub struct Labels<'a> {
     list: Vec<Name<'a>>,
 }
@@ -36,7 +36,7 @@ impl<'a> Labels<'a> {
 }
 
 /// What a line says.
-#[derive(Debug, Drop)]
+#[derive(Drop)]
 pub struct Line<'a> {
     /// The labels that it defines, in order.
     pub labels: Labels<'a>,

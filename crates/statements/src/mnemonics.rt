@@ -9,7 +9,7 @@ use crate::operations::{
 };
 
 /// An instruction of two registers whose immediate is known.
-#[derive(Clone, Copy, Debug, PartialEq, Eq)]
+#[derive(Clone, Copy, PartialEq, Eq)]
 pub(crate) enum Unary {
     /// ADDI with 0.
     Move,
@@ -20,7 +20,7 @@ pub(crate) enum Unary {
 }
 
 /// An instruction that takes no operand.
-#[derive(Clone, Copy, Debug, PartialEq, Eq)]
+#[derive(Clone, Copy, PartialEq, Eq)]
 pub(crate) enum Fixed {
     /// ADDI of x0 with 0.
     Nop,
@@ -33,7 +33,7 @@ pub(crate) enum Fixed {
 }
 
 /// What a mnemonic or a directive's name means, by the operands that it takes.
-#[derive(Clone, Copy, Debug, PartialEq, Eq)]
+#[derive(Clone, Copy, PartialEq, Eq)]
 pub(crate) enum Mnemonic {
     /// `op rd, rs1, rs2`.
     Registers(RegisterOperation),

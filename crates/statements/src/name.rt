@@ -6,7 +6,7 @@ use crate::spelling::is_name;
 use std::marker::Model;
 
 /// A name in a text. A contract sees its bytes.
-#[derive(Debug, Drop)]
+#[derive(Drop)]
 pub struct Name<'a> {
     text: &'a str,
 }

@@ -5,7 +5,7 @@ ghost use Rattle.statements.specs.Operations as spec;
 use rv32i::{BranchOffset, Imm, Instr, Reg, Shamt, Upper};
 
 /// An instruction of three registers (RISC-V Unprivileged ISA 20191213, section 2.4).
-#[derive(Clone, Copy, Debug, PartialEq, Eq)]
+#[derive(Clone, Copy, PartialEq, Eq)]
 pub(crate) enum RegisterOperation {
     /// ADD.
     Add,
@@ -30,7 +30,7 @@ pub(crate) enum RegisterOperation {
 }
 
 /// A shift by an immediate (section 2.4).
-#[derive(Clone, Copy, Debug, PartialEq, Eq)]
+#[derive(Clone, Copy, PartialEq, Eq)]
 pub(crate) enum ShiftOperation {
     /// SLLI.
     Slli,

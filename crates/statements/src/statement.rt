@@ -6,7 +6,7 @@ use crate::operations::{Condition, ImmediateOperation, StoreOperation};
 use rv32i::{Instr, Reg};
 
 /// Where a jump or a branch goes.
-#[derive(Debug, Drop)]
+#[derive(Drop)]
 pub enum Target<'a> {
     /// The address of a label.
     Label(Name<'a>),
@@ -15,7 +15,7 @@ pub enum Target<'a> {
 }
 
 /// What a line says. What depends on an address names the label or the address.
-#[derive(Debug, Drop)]
+#[derive(Drop)]
 pub enum Statement<'a> {
     /// One instruction that is known.
     One(Instr),

@@ -76,7 +76,7 @@ impl Runner {
     {
         if let Goal::ReverseGo = self.goal {
             let hart = self.course.hart();
-            let hit = self.breaks.look(hart.pc, hart, self.course.memory());
+            let hit = self.breaks.stand_at(hart.pc, hart, self.course.memory());
             return outcome_or(hit, self.unless_start());
         }
         self.breaks.forget_ids();

@@ -56,10 +56,10 @@ impl Runner {
         if self.check_due {
             return stretch_of(0, self.check_entry());
         }
-        let (went, ending) = self.advance(most);
+        let (went, ending) = self.make_burst(most);
         match ending {
             BurstEnd::Spent => Stretch { went, ending: None },
-            BurstEnd::Near => stretch_of(went, self.look_closely()),
+            BurstEnd::Near => stretch_of(went, self.check_closely()),
             BurstEnd::Halted(halt) => Stretch {
                 went,
                 ending: Some(self.halted(halt)),
@@ -68,7 +68,7 @@ impl Runner {
     }
 
     // At most `most` instructions in a row: how many went, and what ended them.
-    fn advance(&mut self, most: u32) -> (u32, BurstEnd)
+    fn make_burst(&mut self, most: u32) -> (u32, BurstEnd)
         requires due { self.old.check_due ≡ false }
         requires forward { turns_back self.old.goal ≡ false }
         requires few { self.old.retired + most ≤ 2 ^ 62 }
@@ -137,14 +137,14 @@ impl Runner {
         match stepped {
             Stepped::Retired => Tick {
                 printed: None,
-                outcome: self.look(),
+                outcome: self.check_here(),
             },
             Stepped::Printed(number) => Tick {
                 printed: Some(number),
-                outcome: self.look(),
+                outcome: self.check_here(),
             },
             Stepped::Break => {
-                self.look();
+                self.check_here();
                 Tick {
                     printed: None,
                     outcome: Outcome::Stopped(Reason::Ebreak),
@@ -167,23 +167,23 @@ impl Runner {
         }
     }
 
-    // What a look at pc finds, and how a run ends with it.
+    // What is found at pc, and how a run ends with it.
     #[inline]
-    fn look_closely(&mut self) -> Option<RunEnd>
+    fn check_closely(&mut self) -> Option<RunEnd>
         ensures ending { IsEnding (record { printed = None; outcome = seen self.old })
             self.new result }
         ensures state { self.new ≡ with_check self.old }
     {
-        let outcome = self.look();
+        let outcome = self.check_here();
         self.ending_of(Tick {
             printed: None,
             outcome,
         })
     }
 
-    // What a look at pc finds: the breakpoints, and whether the goal is met.
+    // What is found at pc: the breakpoints, and whether the goal is met.
     #[inline]
-    fn look(&mut self) -> Outcome
+    fn check_here(&mut self) -> Outcome
         ensures outcome { result ≡ seen self.old }
         ensures state { self.new ≡ with_check self.old }
     {

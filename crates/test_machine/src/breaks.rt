@@ -30,7 +30,7 @@ pub(crate) fn answer_breaks(
             hit_shown(alloc, breaks, hit)
         }
         ["look"] => {
-            let hit = breaks.look(hart.pc, hart, memory);
+            let hit = breaks.stand_at(hart.pc, hart, memory);
             hit_shown(alloc, breaks, hit)
         }
         ["ids"] => with_numbers(shown(alloc, "ids")?, alloc, breaks.ids()),

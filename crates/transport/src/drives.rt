@@ -99,7 +99,7 @@ pub(crate) fn drive_in<W: Wire, F: Files, R: Recorder>(
 {
     let mut since = 0;
     'driving: for made in 0..turns {
-        match turn(alloc, session, wire, files, recorder, room, since) {
+        match round(alloc, session, wire, files, recorder, room, since) {
             Ok(moves) => since = moves,
             Err(end) => {
                 return Drove {
@@ -117,7 +117,7 @@ pub(crate) fn drive_in<W: Wire, F: Files, R: Recorder>(
 
 // Does what is due, where a program made `since` moves since bytes came, and answers how many it has made then,
 // or how driving ends.
-fn turn<W: Wire, F: Files, R: Recorder>(
+fn round<W: Wire, F: Files, R: Recorder>(
     alloc: Global,
     session: &mut Session,
     wire: &mut W,
@@ -150,7 +150,7 @@ fn turn<W: Wire, F: Files, R: Recorder>(
         return receive(session, wire, recorder, room, since);
     }
     if wire.can_poll() {
-        return look(session, wire, recorder, room, since);
+        return poll(session, wire, recorder, room, since);
     }
     run(session, recorder, MOVES_GRANTED, since, false)
 }
@@ -204,8 +204,8 @@ fn answer<F: Files, R: Recorder>(
     }
 }
 
-// Looks for a piece, and gives the program a slice where none has come.
-fn look<W: Wire, R: Recorder>(
+// Asks the wire for a piece, and gives the program a slice where none has come.
+fn poll<W: Wire, R: Recorder>(
     session: &mut Session,
     wire: &mut W,
     recorder: &mut R,

@@ -31,7 +31,7 @@ pub enum ReplayFault {
 }
 
 /// Why not all lines were written.
-#[derive(Clone, Copy, Debug, PartialEq, Eq)]
+#[derive(Clone, Copy, PartialEq, Eq)]
 pub(crate) enum Unwritten {
     /// The writer failed, or took nothing.
     Write,

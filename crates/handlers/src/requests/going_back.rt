@@ -1,4 +1,4 @@
-//! What `stepBack` and `reverseContinue` have in common: the program goes back, by moves that are recorded.
+//! `stepBack` and `reverseContinue`: the program goes back, by moves that are recorded.
 ghost use Rattle.std.specs.Prelude.{◌≡◌, length};
 ghost use Rattle.handlers.specs.Changes.{answering_as};
 ghost use Rattle.handlers.specs.GoingBack as spec;

@@ -139,23 +139,6 @@ fn error_text(alloc: Global, error: AsmError) -> Result<Text, AllocError>
     ensures { IfOk result (λ text. text ≡ spec.error_text error) }
 {
     let line = error.line;
-    let kind = kind_name(error.kind);
+    let kind = error.kind.name();
     Ok(Text::from_string(format!(in alloc; "line {line}: {kind}")?))
-}
-
-// The name of what is wrong with a line.
-fn kind_name(kind: AsmErrorKind) -> &'static str
-    ensures { result.now ≡ spec.kind_name kind }
-{
-    match kind {
-        AsmErrorKind::NotUtf8 => "NotUtf8",
-        AsmErrorKind::Syntax => "Syntax",
-        AsmErrorKind::UnknownInstruction => "UnknownInstruction",
-        AsmErrorKind::BadOperand => "BadOperand",
-        AsmErrorKind::OutOfRange => "OutOfRange",
-        AsmErrorKind::TwiceDefined => "TwiceDefined",
-        AsmErrorKind::Undefined => "Undefined",
-        AsmErrorKind::TooLarge => "TooLarge",
-        AsmErrorKind::NoMemory => "NoMemory",
-    }
 }

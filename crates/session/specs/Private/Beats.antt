@@ -7,11 +7,8 @@ use Rattle.debuggee.specs.declared.run.Why.TheVariants as why
 use Rattle.replies.specs.declared.event.Event.{Event}
 use Rattle.session.specs.declared.event.SliceEnd.{SliceEnd}
 use Rattle.session.specs.declared.event.SliceEnd.TheVariants as ending
-use Rattle.session.specs.declared.slices.Ahead.{Ahead}
-use Rattle.session.specs.declared.slices.Ahead.TheVariants as ahead
 use Rattle.session.specs.declared.slices.Made.{Made}
 use Rattle.session.specs.declared.slices.Made.TheVariants as made
-use Rattle.session.specs.declared.slices.Moves.{Moves}
 use Rattle.session.specs.declared.slices.Next.{Next}
 use Rattle.session.specs.declared.slices.Next.TheVariants as next
 use Rattle.session.specs.declared.slices.Step.{Step}
@@ -94,28 +91,30 @@ pub record Stretches (n moved : ℕ) (old : Kept) (step : Step) (new : Kept) : T
   pub some : step.ending ≡ None → 1 ≤ count
   pub lacks : step.ending ≡ Some ending.NoMemory → MayLack (keepings.see new) (nat_lt (moved + step.moved) n)
 
+-- how many moves were made, where this many were asked for
+abbrev pub moved_by : ℕ → Advanced → ℕ
+moved_by most advanced.Spent = most
+moved_by most (advanced.HasOutput n) = n
+moved_by most (advanced.Stops n tick) = n
+moved_by most (advanced.OutOfMemory n) = n
+
 -- what is known of what comes next: nothing, as some move was made; or that the next one traps or ends the program; or
 -- that it may lack memory
-abbrev pub IsAhead : ℕ → ℕ → Ahead → Kept → Type 0
-IsAhead left moved ahead.Open k = 1 ≤ moved
-IsAhead left moved (ahead.Meets tick) k = (moved < left)
+abbrev pub IsAhead : ℕ → ℕ → Advanced → Kept → Type 0
+IsAhead left most advanced.Spent k = 1 ≤ most
+IsAhead left most (advanced.HasOutput n) k = 1 ≤ n
+IsAhead left most (advanced.Stops n tick) k = (n < left)
     × ((p : Program) × (IsFree p (keepings.see k) × ((next_tick p ≡ tick) × (stays tick.outcome ≡ true))))
-IsAhead left moved ahead.Lacks k = (moved < left)
+IsAhead left most (advanced.OutOfMemory n) k = (n < left)
     × ((p : Program) × (IsFree p (keepings.see k) × MayLackMemory p.machine))
-
--- the moves that were made, at most this many, and what is known of the next one
-abbrev pub moves_of : ℕ → Advanced → Moves
-moves_of most advanced.Spent = record { moved = most; ahead = ahead.Open }
-moves_of most (advanced.Owes n) = record { moved = n; ahead = ahead.Open }
-moves_of most (advanced.Meets n tick) = record { moved = n; ahead = ahead.Meets tick }
-moves_of most (advanced.Lacks n) = record { moved = n; ahead = ahead.Lacks }
 
 -- each of these moves is one beat, as all but the last have nothing to tell; and what is known of the next
 -- instruction is true
-pub record Moved (left : ℕ) (old : Kept) (moves : Moves) (new : Kept) : Type 0 where
-  pub few : moves.moved ≤ left
-  pub goes : (n moved : ℕ) → moved + left ≤ n → beats_on keepings n moves.moved (going old moved) ≡ going new (moved + moves.moved)
-  pub next : IsAhead left moves.moved moves.ahead new
+pub record Moved (left : ℕ) (old : Kept) (most : ℕ) (advanced : Advanced) (new : Kept) : Type 0 where
+  pub few : moved_by most advanced ≤ left
+  pub goes : (n moved : ℕ) → moved + left ≤ n
+      → beats_on keepings n (moved_by most advanced) (going old moved) ≡ going new (moved + moved_by most advanced)
+  pub next : IsAhead left most advanced new
 
 -- a slice under way, after at least this many beats
 pub record Reached (n least : ℕ) (s : Kept) (moved : ℕ) (k : Kept) : Type 0 where

@@ -1,6 +1,5 @@
 -- What an editor knows fits to what there is now, so that what comes next can be told.
-use Rattle.session_laws.proofs.Headline.Common.{Active, Bool, BreakInfo, Configuring, ended, Facts, false, Frame, FrameInfo, Fresh, Hart, Holds, HoldsAt, HoldsRun, in_state, Initialized, is_active_in, is_debugging_in, is_running, Left, List, Mark, marked, marked_by, None, nothing_known, number_in, numbered, Numbers, on_program, Option, Phase, Program, refl, Run, Running, RunState, shown_by, shown_of, slice_get, Some, state_of, subst, sym, Terms, true, Unknown, ℕ, ℤ, ⊤, ◌∙◌, ◌≡◌}
-use Rattle.course.specs.Positions.{Position}
+use Rattle.session_laws.proofs.Headline.Common.{Active, arith, Bool, BreakInfo, Configuring, ended, Facts, false, Frame, FrameInfo, Fresh, Hart, Holds, HoldsAt, HoldsRun, in_state, Initialized, is_active_in, is_debugging_in, is_running, Left, List, Mark, marked, marked_by, None, nothing_known, number_in, numbered, Numbers, on_program, Option, Phase, Position, Program, refl, Running, RunState, shown_by, shown_of, slice_get, Some, state_of, subst, sym, Terms, true, Unknown, ℕ, ℤ, ⊤, ◌∙◌, ◌≡◌}
 use Rattle.debuggee.specs.declared.run.Run.TheVariants as a_run
 use Rattle.facts.specs.declared.run.RunState.TheVariants.{Stopped, Ended}
 
@@ -58,46 +57,22 @@ OwesOf None = ⊤
 OwesOf (Some p) = OwesRunning p
 
 -- one that owes nothing owes as it may
-abbrev pub OwesNothing : Option Program → Type 0
-OwesNothing None = ⊤
-OwesNothing (Some p) = p.owed ≡ None
-
 pub nothing_owed : (p : Program) → p.owed ≡ None → OwesRunning p
 nothing_owed p e = λ some. absurd (some e)
-
-pub owes_nothing : (program : Option Program) → OwesNothing program → OwesOf program
-owes_nothing None e = tt
-owes_nothing (Some p) e = nothing_owed p e
 
 pub never : {A : Type 0} → {X : Type 0} → (x : X) → None ≡ Some x → A
 never x e = absurd (let no : None ≡ Some x = e in cc)
 
 -- nothing known holds of all, whether it was launched or not
 pub nothing_holds : (launched : Bool) (so : Facts) → Holds (record nothing_known { launched = launched }) so
-nothing_holds launched so = record {
-  run = tt;
-  source = λ path place x e. never x e;
-  instructions = λ place x e. never x e;
-  functions = λ place x e. never x e;
-  frame = λ place x e. never x e;
-  register = λ place x e. never x e;
-  byte = λ place x e. never x e;
-}
+nothing_holds launched so = grind arith
 
 -- where nothing is known, what is known fits
 pub nothing_agrees : (launched : Bool) (program : Option Program) (numbers : Numbers) (terms : Terms)
     → SuitsPhase terms.phase terms.launched (record nothing_known { launched = launched })
     → Agrees (record nothing_known { launched = launched }) program numbers terms
 nothing_agrees launched program numbers terms suits =
-    record {
-      holds = nothing_holds launched (shown_by program numbers);
-      moving = moves program;
-      numbered = λ index x e. never x e;
-      phase = suits;
-    } where
-      moves : (program : Option Program) → MovesUnknown program (record nothing_known { launched = launched })
-      moves None = tt
-      moves (Some p) = λ _. no_stand_in Unknown (record nothing_known { launched = launched })
+    record { holds = nothing_holds launched (shown_by program numbers); moving = grind arith; numbered = grind arith; phase = suits }
 
 -- ---- from one state to another
 
@@ -122,12 +97,12 @@ in_agrees run f so q numbers terms h same is suits =
         source = λ path. same_list (f.source path) (so.source path) (now.source path) (same.source path) (h.source path);
         instructions = same_list f.instructions so.instructions now.instructions same.instructions h.instructions;
         functions = same_list f.functions so.functions now.functions same.functions h.functions;
-        frame = λ place x e. never x e;
-        register = λ place x e. never x e;
-        byte = λ place x e. never x e;
+        frame = grind arith;
+        register = grind arith;
+        byte = grind arith;
       };
       moving = λ _. no_stand_in run f;
-      numbered = λ index x e. never x e;
+      numbered = grind arith;
       phase = suits;
     }
 
@@ -151,26 +126,18 @@ moving_agrees f so q numbers terms none h same is suits =
 pub ended_agrees : (code : Option ℤ) (f : Facts) (p : Program) (numbers : Numbers) (terms : Terms) → HoldsRun (Ended code) (Ended code)
     → SuitsPhase terms.phase terms.launched (record f { run = Ended code }) → Agrees f (Some p) numbers terms
     → Agrees (record f { run = Ended code }) (Some (ended code p)) numbers terms
-ended_agrees code f p numbers terms is suits h = record {
-  holds = assumption;
-  moving = λ runs. absurd (let no : false ≡ true = runs in cc);
-  numbered = h.numbered;
-  phase = suits;
-}
+ended_agrees code f p numbers terms is suits h =
+    record { holds = assumption; moving = λ runs. absurd (let no : false ≡ true = runs in cc); numbered = h.numbered; phase = suits }
 
 -- what was agreed with an editor that said all
 pub suits_as : (phase : Phase) (launched : Bool) (f g : Facts) → is_active_in phase ≡ true → g.launched ≡ f.launched
     → SuitsPhase phase launched f → SuitsPhase phase launched g
-suits_as Active launched f g e same h = same ∙ h
-suits_as _ launched f g e same h = absurd (let no : false ≡ true = e in cc)
+suits_as phase launched f g e same h = grind arith
 
 -- the same with one that debugs
 pub suits_on : (phase : Phase) (launched : Bool) (f g : Facts) → is_debugging_in phase ≡ true → g.launched ≡ f.launched
     → (IsQuiet f.run → IsQuiet g.run) → (KnowsNoStand f → KnowsNoStand g) → SuitsPhase phase launched f → SuitsPhase phase launched g
-suits_on Configuring launched f g e same quiet stand h =
-    record { launched = same ∙ h.launched; quiet = quiet h.quiet; stand = stand h.stand }
-suits_on Active launched f g e same quiet stand h = same ∙ h
-suits_on _ launched f g e same quiet stand h = absurd (let no : false ≡ true = e in cc)
+suits_on phase launched f g e same quiet stand h = grind arith
 
 -- a program stands still, and its editor said all
 pub record Stands (f : Facts) (p : Program) (numbers : Numbers) (terms : Terms) : Type 0 where
@@ -189,15 +156,12 @@ stand_agrees f p hart memory past numbers more terms frame register byte s frame
   holds = assumption;
   moving = λ runs. absurd (let no : false ≡ true = sym s.still ∙ runs in cc);
   numbered = numbered;
-  phase =
-      suits_as terms.phase terms.launched f (record f { frame = frame; register = register; byte = byte }) s.active refl s.agrees.phase;
+  phase = suits_as terms.phase terms.launched f _ s.active refl s.agrees.phase;
 }
 
 -- a mark changes nothing that is to be seen
 pub marked_agrees : (mark : Mark) (f : Facts) (program : Option Program) (numbers : Numbers) (terms : Terms)
     → Agrees f program numbers terms → Agrees f (on_program (marked mark) program) numbers terms
 marked_agrees mark f None numbers terms h = h
-marked_agrees mark f (Some p) numbers terms h = by p.run where
-  by : (r : Run) → Agrees f (Some (marked_by r mark p)) numbers terms
-  by a_run.Running = record { holds = h.holds; moving = h.moving; numbered = h.numbered; phase = h.phase }
-  by _ = h
+marked_agrees mark f (Some p) numbers terms h =
+    elim p.run as (λ r. Agrees f (Some (marked_by r mark p)) numbers terms) [ a_run.Running ↦ assumption | _ ↦ h ]

@@ -1,17 +1,7 @@
 -- Each beat of a slice leads to what is known and fits.
-use Rattle.session_laws.proofs.Headline.Common.{[], ap, Beat, beat_of, Bool, BreakInfo, checked, counted, entered, Facts, Hart, if_keeps, info_of, is_active, is_active_in, is_hit, is_running, List, listed_at, Lists, map, moved, Numbers, Ok, Option, Placed, Program, refl, Result, runs, Seen, shown_of, Some, subst, sym, Terms, Tick, true, why_marked, with_hit, ℕ, ◌∙◌, ◌∷◌, ◌≡◌}
-use Rattle.std.specs.declared.alloc.AllocError.{AllocError}
-use Rattle.rv32i.specs.declared.instr.Instr.{Instr}
-use Rattle.rv32i.specs.declared.stepped.Stepped.{Stepped}
-use Rattle.rv32i.specs.declared.stepped.Stepped.TheVariants as stepped
-use Rattle.stepping.proofs.Existing.{the_tick}
-use Rattle.course.specs.Positions.{Position}
-use Rattle.stepping.specs.Ticks.{Debugged, IsTick, entry_checked, looked_at, moved_as, settled, undone_by}
-use Rattle.stepping.specs.declared.goal.Goal.{Goal}
-use Rattle.stepping.specs.declared.goal.Goal.TheVariants as goal
-use Rattle.stepping.proofs.Cases.{by_tick}
+use Rattle.session_laws.proofs.Headline.Common.{[], AllocError, ap, arith, beat_of, Bool, BreakInfo, by_tick, checked, counted, Debugged, entered, entry_checked, Facts, Hart, if_keeps, info_of, Instr, is_active, is_active_in, is_hit, is_running, IsTick, List, listed_at, Lists, map, moved, moved_as, None, Numbers, Ok, Option, Placed, Program, refl, Result, runs, Seen, settled, shown_of, Some, Stepped, sym, Terms, the_tick, Tick, true, with_hit, ℕ, ◌∙◌, ◌∷◌, ◌≡◌}
 use Rattle.session_laws.proofs.Headline.Agreeing.{Agrees, moving_agrees, never, OwesOf}
-use Rattle.session_laws.proofs.Headline.ByBeat.{by_beat, ByBeat}
+use Rattle.session_laws.proofs.Cases.{by_running}
 use Rattle.session_laws.proofs.Headline.Leading.{ends_lead, Leads, SameBut, stops_lead, telling_leads}
 
 -- ---- a tick leaves the breakpoints where they are
@@ -33,25 +23,15 @@ checked_same pc hart memory lists =
     record { source = same lists.source; instructions = same lists.instructions; functions = same lists.functions }
 
 settled_same : (s : Stepped) (instr : Option Instr) (before d : Debugged) → SameLists d.lists (settled s instr before d).lists
-settled_same (stepped.Exit code) instr before d = record { source = refl; instructions = refl; functions = refl }
-settled_same (stepped.Trap cause) instr before d = record { source = refl; instructions = refl; functions = refl }
-settled_same _ instr before d = checked_same d.hart.pc d.hart d.memory d.lists
+settled_same s instr before d = grind (arith, checked_same d.hart.pc d.hart d.memory d.lists)
 
 -- nor does one that goes back change them
-looked_same : (g : Goal) (past : List Position) (d : Debugged) → SameLists d.lists (looked_at g (undone_by past d)).lists
-looked_same goal.ReverseGo [] d = record { source = refl; instructions = refl; functions = refl }
-looked_same goal.ReverseGo (before ∷ past) d = record { source = refl; instructions = refl; functions = refl }
-looked_same _ [] d = record { source = refl; instructions = refl; functions = refl }
-looked_same _ (before ∷ past) d = record { source = refl; instructions = refl; functions = refl }
-
 tick_same : (before after : Debugged) (answer : Result Tick AllocError) → IsTick before answer after → SameLists before.lists after.lists
 tick_same before after answer is =
     by_tick before after answer is
-    (λ due x. subst (λ (d : Debugged). SameLists before.lists d.lists) (sym x.1)
-    (checked_same before.hart.pc before.hart before.memory before.lists))
-    (λ due turns x. subst (λ (d : Debugged). SameLists before.lists d.lists) (sym x.1) (looked_same before.goal before.past before))
-    (λ due forward m. subst (λ (d : Debugged). SameLists before.lists d.lists) (sym m.settles.1)
-    (settled_same m.stepped m.instr before (moved_as before after)))
+    (λ due x. rw x.1 (checked_same before.hart.pc before.hart before.memory before.lists))
+    (λ due turns x. rw x.1 (grind arith))
+    (λ due forward m. rw m.settles.1 (settled_same m.stepped m.instr before (moved_as before after)))
 
 breaks_same : (p : Program) (d : Debugged) (owed : Option Tick) → SameLists p.machine.lists d.lists
     → SameBut p (record p { machine = d; owed = owed })
@@ -79,21 +59,16 @@ module _ (terms : Terms) (numbers : Numbers) (f : Facts) where
       moving_agrees f (shown_of p numbers) (record p { machine = d; owed = owed }) numbers terms (h.moving runs) h.holds
       (same numbers numbers) h.holds.run h.phase
 
-  abbrev LeadsBeat : Option Program → Beat → Beat → Type 0
-  LeadsBeat program still b = OwesOf program → Agrees f program numbers terms → Leads terms numbers f program b.acts
-
-  beats_lead : (seen : Seen) → is_active_in terms.phase ≡ is_active seen.now.link → ByBeat seen LeadsBeat
-  unfolding Leads
-  beats_lead seen active = record {
-    rests = λ program e _ h. h;
-    owed = λ p tick e owes h. telling_leads terms numbers f seen.now p tick active (owes (λ none. never tick (sym none ∙ e))) h;
-    checks = λ p g _ h. goes_agrees p (entered p).machine (entered p).owed g.runs (entered_same p) h;
-    halts_marked = λ p mark g _ h. stops_lead terms numbers f p (why_marked mark) [] (is_active seen.now.link) active g.runs h;
-    makes = λ p g _ h. goes_agrees p (moved p).machine (moved p).owed g.runs (moved_same p) h;
-    halts_moving = λ p why g _ h. stops_lead terms numbers f p why [] (is_active seen.now.link) active g.runs h;
-    ends_moving = λ p code g _ h. ends_lead terms numbers f p code (is_active seen.now.link) active g.runs h;
-  }
-
   pub program_leads : (program : Option Program) (seen : Seen) (more : Bool) → is_active_in terms.phase ≡ is_active seen.now.link
       → OwesOf program → Agrees f program numbers terms → Leads terms numbers f program (beat_of program seen more).acts
-  program_leads program seen more active = by_beat seen LeadsBeat (beats_lead seen active) program more
+  unfolding Leads
+  program_leads None seen more active owes h = h
+  program_leads (Some p) seen more active owes h =
+      by_running seen p more (λ b. Leads terms numbers f (Some p) b.acts) h (λ runs. record {
+        tells = λ tick e. telling_leads terms numbers f seen.now p tick active (owes (λ none. never tick (sym none ∙ e))) h;
+        ends_for = λ _ _ _. h;
+        stops_for = λ why none _. stops_lead terms numbers f p why [] (is_active seen.now.link) active (runs none) h;
+        exits_with = λ code none _ _. ends_lead terms numbers f p code (is_active seen.now.link) active (runs none) h;
+        enters = λ none _ _. goes_agrees p (entered p).machine (entered p).owed (runs none) (entered_same p) h;
+        moves = λ none _ _ _ _. goes_agrees p (moved p).machine (moved p).owed (runs none) (moved_same p) h;
+      })

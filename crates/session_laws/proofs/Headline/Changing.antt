@@ -1,27 +1,11 @@
 -- `setVariable` and `writeMemory`: what is known of registers and of memory is so after the change.
-use Rattle.session_laws.proofs.Headline.Common.{[], address_in, ap, arith, Bool, bytes_eq, codes, cond, drop, eqb, eqb-false, eqb-true, Err, Facts, false, get_or-set_other, get_or-set_same, Hart, has, HoldsAt, if_keeps, IfOk, inl, inr, leb, leb-false, leb-true, length, length-take, List, lt-ltb, ltb, ltb-false, ltb-true, min, None, not, Numbers, offset_by, Ok, Option, position_or_len, Program, range_with_len, refl, Refusal, register_at, register_of, Result, slice_get_within, Some, subst, suc, succeeded, sym, take, Target, Terms, true, valued, with_hart, written, zero, ℕ, ◌%◌, ◌&&◌, ◌+◌, ◌-◌, ◌<◌, ◌^◌, ◌∙◌, ◌≡◌, ◌≤◌, ◌⊎◌}
-use Rattle.std.proofs.lemmas.List.Folds.{find_at}
-use Rattle.answers.proofs.ProperValues.{writings_fit}
-use Rattle.answers.specs.ReadMemory.{can_begin, start_at}
-use Rattle.numerals.specs.Words.{word_of}
-use Rattle.answers.specs.SetVariable.{set_in, setting_of, with_register}
+use Rattle.session_laws.proofs.Headline.Common.{[], address_in, ap, AreRegisters, arith, byte_at, bytes_eq, can_begin, cond, drop, eqb, eqb-false, eqb-true, Err, Facts, false, fault_at, find_at, Frame, get_or-set_other, get_or-set_same, Hart, has, has_bytes, HoldsAt, if_keeps, IfOk, inl, inr, leb, length, length-take, List, lt-ltb, ltb, ltb-true, min, name_answer, nat_tests, None, Numbers, offset_by, Ok, Option, position_or_len, Program, range_with_len, refl, Refusal, register_at, register_of, Registers, Result, set_in, Setting, setting_of, SetVariableArguments, slice_get_within, Some, Stack, start_at, subst, suc, succeeded, sym, take, Target, Terms, TooMuch, true, value_of, valued, with_bytes, with_hart, with_register, word_of, Writing, writings_fit, written, zero, ℕ, ◌&&◌, ◌+◌, ◌-◌, ◌<◌, ◌^◌, ◌∙◌, ◌≡◌, ◌≤◌, ◌⊎◌}
 use Rattle.answers.specs.WriteMemory.{fitting, start_by, write_memory, written as written_by, written_at, writing_of}
-use Rattle.answers.specs.declared.set_variable.Setting.{Setting}
-use Rattle.answers.specs.declared.write_memory.Writing.{Writing}
 use Rattle.image.proofs.Maps.{keeps_above, keeps_below, writes_bytes}
-use Rattle.image.specs.Memory.{byte_at, fault_at, has_bytes, memory_after, with_bytes}
-use Rattle.image.specs.declared.fault.MemFault.{MemFault}
-use Rattle.image.specs.declared.fault.MemFault.TheVariants.{Misaligned, Outside}
 use Rattle.mirror.specs.Folding.{over}
 use Rattle.mirror.specs.declared.asked.Asked.TheVariants as asks
-use Rattle.protocol.specs.declared.refusal.Refusal.TheVariants.{NotWritable, TooMuch}
-use Rattle.protocol.specs.declared.set_variable.SetVariableArguments.{SetVariableArguments}
 use Rattle.protocol.specs.declared.write_memory.WriteMemoryArguments.{WriteMemoryArguments}
-use Rattle.range_laws.specs.Machines.{AreRegisters}
 use Rattle.rv32i.specs.Names.{name_of, number_named}
-use Rattle.variables.specs.Registers.{name_answer, unless_zero}
-use Rattle.variables.specs.Values.{value_of}
-use Rattle.variables.specs.declared.target.Target.TheVariants as target
 use Rattle.session_laws.proofs.Headline.Agreeing.{Agrees, stand_agrees, Stands}
 use Rattle.session_laws.proofs.Headline.Valuing.{over_all, value_at, valued_so}
 use Rattle.session_laws.proofs.Headline.Showing.{get_range}
@@ -32,8 +16,8 @@ register_set : (hart : Hart) (n value : ℕ) → length hart.x ≡ 32 → ltb (s
     → register_at (with_register hart (suc n) value) (suc n) ≡ Some value
 register_set hart n value long less =
     let small = ltb-true (suc n) 32 less in
-    value_at (with_register hart (suc n) value) (suc n) less
-    ∙ ap (λ (v : ℕ). Some v) (get_or-set_same hart.x (suc n) value 0 (omega (arith, long, small)))
+    let set = get_or-set_same hart.x (suc n) value 0 (omega (arith, long, small)) in
+    value_at (with_register hart (suc n) value) (suc n) less ∙ ap (λ (v : ℕ). Some v) set
 
 register_kept : (hart : Hart) (n value k : ℕ) → eqb (suc n) k ≡ false
     → register_at (with_register hart (suc n) value) k ≡ register_at hart k
@@ -58,21 +42,9 @@ number_less name r e =
     let less = got.1 in lt-ltb r 32 (omega (arith, is, less))
 
 which : (name : List ℕ) (r : ℕ) → name_answer name ≡ Ok r → IsRegister name r
-which name r e = by (bytes_eq name (codes "pc")) (number_named name) refl refl e where
-  by : (b : Bool) (found : Option ℕ) → bytes_eq name (codes "pc") ≡ b → number_named name ≡ found
-      → cond b (Err NotWritable) (unless_zero found) ≡ Ok r → IsRegister name r
-  by true found pc f e = absurd (cc)
-  by false None pc f e = absurd (cc)
-  by false (Some m) pc f e =
-      if_keeps (λ (x : Result ℕ Refusal). x ≡ Ok r → IsRegister name r) (eqb m 0) (Err NotWritable) (Ok m) (λ _ e. absurd (cc))
-      (λ z e.
-      let same : m ≡ r = cc in
-      let named = f ∙ ap (λ (k : ℕ). Some k) same in
-      record {
-        named = ap (λ b. cond b (Some 32) (number_named name)) pc ∙ named;
-        less = number_less name r named;
-        some = subst (λ (k : ℕ). eqb k 0 ≡ false) same z;
-      }) e
+which name r e =
+    let is : number_named name ≡ Some r = grind arith in
+    record { named = grind (arith, is); less = number_less name r is; some = grind arith }
 
 -- ---- `setVariable`
 
@@ -86,8 +58,7 @@ module _ (f : Facts) (p : Program) (numbers : Numbers) (terms : Terms) (s : Stan
       let h = s.agrees.holds in
       stand_agrees f p (with_register hart (suc n) value) p.machine.memory [] numbers numbers terms f.frame
       (valued (register_of arguments.name) value f.register) f.byte s h.frame
-      (subst (λ (x : Option ℕ). HoldsAt (valued x value f.register) (register_at (with_register hart (suc n) value))) (sym is.named)
-      (valued_so (suc n) value f.register (register_at hart) (register_at (with_register hart (suc n) value))
+      (rw is.named (valued_so (suc n) value f.register (register_at hart) (register_at (with_register hart (suc n) value))
       (register_set hart n value registers.count is.less) (register_kept hart n value) h.register))
       h.byte s.agrees.numbered
 
@@ -97,14 +68,14 @@ module _ (f : Facts) (p : Program) (numbers : Numbers) (terms : Terms) (s : Stan
       (Some (with_hart setting.hart p)) numbers terms)
 
   pub setting_so : AreRegisters p.machine.hart.x → (found : Result Target Refusal) → SetSo (set_in arguments p.machine found)
-  setting_so registers (Ok (target.Frame index)) = tt
-  setting_so registers (Ok target.Registers) = by (name_answer arguments.name) refl (value_of arguments.value) where
+  setting_so registers (Ok (Frame index)) = tt
+  setting_so registers (Ok Registers) = by (name_answer arguments.name) refl (value_of arguments.value) where
     by : (named : Result ℕ Refusal) → name_answer arguments.name ≡ named → (value : Option ℕ)
         → SetSo (setting_of p.machine.hart named value)
     by (Err refusal) e value = tt
     by (Ok r) e None = tt
     by (Ok r) e (Some value) = set_agrees r value registers (which arguments.name r e)
-  setting_so registers (Ok target.Stack) = tt
+  setting_so registers (Ok Stack) = tt
   setting_so registers (Err refusal) = tt
 
 -- ---- `writeMemory`
@@ -115,16 +86,7 @@ IsOutside first count place = (place < first) ⊎ (first + count ≤ place)
 -- a place at which nothing is written, where what is written ends at an address
 outside : (first count place : ℕ) → count ≤ 4294967296 - first
     → (leb first place && ltb place (first + count) && ltb place (2 ^ 32)) ≡ false → IsOutside first count place
-outside first count place fits e = by (leb first place) (ltb place (first + count)) (ltb place (2 ^ 32)) refl refl refl e where
-  by : (a b c : Bool) → leb first place ≡ a → ltb place (first + count) ≡ b → ltb place (2 ^ 32) ≡ c → (a && b && c) ≡ false
-      → IsOutside first count place
-  by false b c x y z e = inl (leb-false first place x)
-  by true false c x y z e = inr (ltb-false place (first + count) y)
-  by true true true x y z e = absurd (let no : true ≡ false = e in cc)
-  by true true false x y z e =
-      let to = ltb-true place (first + count) y in
-      let past : 4294967296 ≤ place = ltb-false place 4294967296 z in
-      absurd (let from = leb-true first place x in omega (arith, fits, from, to, past))
+outside first count place fits e = grind (arith, nat_tests)
 
 written_hold : (memory : List ℕ) (address : ℕ) (bytes : List ℕ) (old : ℕ → Option ℕ) → length bytes ≤ 4294967296 - address
     → has_bytes memory address (length bytes) ≡ true → HoldsAt old (byte_at memory)
@@ -138,11 +100,7 @@ written_hold memory address bytes old fits has h =
       kept place (inr above) = keeps_above memory address place bytes has above
 
 no_fault : (memory : List ℕ) (address count : ℕ) → fault_at memory 1 address count ≡ None → has_bytes memory address count ≡ true
-no_fault memory address count e = by (not (eqb (address % 1) 0)) (has_bytes memory address count) e where
-  by : (a b : Bool) → cond a (Some Misaligned) (cond b None (Some Outside)) ≡ None → b ≡ true
-  by true b e = absurd (cc)
-  by false true e = refl
-  by false false e = absurd (cc)
+no_fault memory address count e = grind arith
 
 module _ (f : Facts) (p : Program) (numbers : Numbers) (terms : Terms) (s : Stands f p numbers terms) (arguments : WriteMemoryArguments) where
   write_agrees : (address : ℕ) (bytes : List ℕ) → length bytes ≤ 4294967296 - address
@@ -153,9 +111,7 @@ module _ (f : Facts) (p : Program) (numbers : Numbers) (terms : Terms) (s : Stan
       let h = s.agrees.holds in
       stand_agrees f p p.machine.hart (written address bytes p).machine.memory (written address bytes p).machine.past numbers numbers terms
       f.frame f.register (over address bytes f.byte) s h.frame h.register
-      (subst (λ (fault : Option MemFault). HoldsAt (over address bytes f.byte)
-      (byte_at (memory_after fault (with_bytes memory address bytes) memory))) (sym none)
-      (written_hold memory address bytes f.byte fits (no_fault memory address (length bytes) none) h.byte))
+      (rw none (written_hold memory address bytes f.byte fits (no_fault memory address (length bytes) none) h.byte))
       s.agrees.numbered
 
   abbrev pub WriteSo : Option ℕ → Result Writing Refusal → Type 0
@@ -173,8 +129,7 @@ module _ (f : Facts) (p : Program) (numbers : Numbers) (terms : Terms) (s : Stan
   writes_so address count room fits =
       let few = fits.0 in
       let long : length (take count arguments.bytes) ≡ count = let e = length-take count arguments.bytes in omega (arith, e, few) in
-      write_agrees address (take count arguments.bytes) (subst (λ (n : ℕ). n ≤ 4294967296 - address) (sym long) room)
-      (subst (λ (n : ℕ). fault_at p.machine.memory 1 address n ≡ None) (sym long) fits.1)
+      write_agrees address (take count arguments.bytes) (rw long room) (rw long fits.1)
 
   written_so : (address : ℕ)
       → Writes (Some address) (written_at p.machine.memory arguments.allow_partial (length arguments.bytes) address)

@@ -18,14 +18,17 @@ pub use Rattle.protocol.specs.declared.request.Request.{Request}
 pub use Rattle.queues.specs.Arrivals.{fate_of_cancel}
 pub use Rattle.queues.specs.declared.pending.Fate.{Fate}
 pub use Rattle.queues.specs.declared.pending.Fate.TheVariants.{Cancelled, Repeated, Waits}
+pub use Rattle.replies.specs.declared.event.Event.TheVariants.{Continued, Exited, Output, Terminated}
 pub use Rattle.replies.specs.declared.event.Event.{Event}
 pub use Rattle.replies.specs.declared.message.Message.TheVariants.{Event as IsEvent}
+pub use Rattle.replies.specs.declared.response.ResponseBody.TheVariants.{Empty}
 pub use Rattle.session.proofs.Orderly.{Orderly, OrderlyIn, OrderlyOf}
 pub use Rattle.session.specs.Acts.{numbered}
 pub use Rattle.session.specs.Effects.{ended_as}
 pub use Rattle.session.specs.Sessions.{snapshot_of}
-pub use Rattle.session_laws.proofs.ByForms.{on, on_with, with_change}
-pub use Rattle.session_laws.proofs.Common.{[], accepting, Act, after_beat, agreed_body, agrees, All, All-cons, All-head, All-nil, All-push, All-tail, All-take, All-weaker, all_joined, and_parts, answer_to, Answering, answering, answers_next, ap, append-nil, append_assoc, arith, Arrivals, Ask, asks_of, at_next_stop, Bad, Beat, beat, beat_by, beat_of, beats, Become, becomes, Beginning, Bool, by_move, by_success, BySuccess, bytes_eq, bytes_of, cancelled_by, cancels, closing, codes, Command, concludes, cond, cond-false, cond-true, Connect, Cut, Debuggee, demand_of, Done, drop, DropConnection, each_life, Effect, Ended, ended, ending_of, ends, enough, entered, eqb, eqb-false, eqb-true, Err, exit_events, exits, false, first_run, flat_map, frame_said, FULL, get_or, given_of, goes, goes_on, goes_unless, halts, HangUp, Happened, Hart, has_ended, has_none, has_program, histories, Hold, holding, hung_on, if_keeps, IfOk, inl, inr, is_above, is_active, is_at_limit, is_ended, is_named, is_repeat, is_runnable_by, is_running, is_some, is_taken_in, IsTrue, joined, LAST_CONNECTION, leaves, leaving, leb, led_append, left, length, length-append, Life, life_of, Link, List, log_event, logged, Looks, lt-ltb, ltb, ltb-false, ltb-true, makes_move, map, map-append, Mark, marked, marked_by, MatchOption, Meets, Message, MOST_PENDING, MOST_PIECE, moved, moves_by, nat_tests, next_by, next_tick, next_turn, no_life, None, not, not_absent, Now, number_of, Numbers, of_answer, Ok, on_program, Open, Option, outcome_at, output_events, Pending, pending_with, performed, performed_append, performed_on, Phase, Program, Reached, reached, read_on, Recv, refl, Refusal, Refused, replied_on, Response, response_to, ResponseBody, restarted, Result, resumed, Run, run_of, runs, Said, said_next, said_on, saying, Seen, Sent, Session, SetsList, Slice, slice_get, sliced, SliceEnd, Slicing, Some, start, step_body, steps, stop_event, Stopped, stopped, stops, subst, suc, success_of, sym, Take, take, take-append-drop, Target, Tell, telling, tells, Terms, Tick, told, true, Turn, turn_by, turn_of, Wanted, Went, Whole, Why, why_marked, with_beat, with_functions, with_hart, with_instructions, with_said, with_source, with_targets, written, zero, ℕ, ℤ, ⊤, ◌&&◌, ◌++◌, ◌+◌, ◌-◌, ◌<◌, ◌^◌, ◌||◌, ◌∙◌, ◌∷◌, ◌≡◌, ◌≤◌, ◌⊎◌}
+pub use Rattle.session_laws.proofs.ByForms.{accepts_by, after_answer, on, on_with, opens_by, said_by, with_change}
+pub use Rattle.session_laws.proofs.Cases.{OwesNothing}
+pub use Rattle.session_laws.proofs.Common.{[], accepting, Act, after_beat, agreed_body, agrees, All, All-cons, All-head, All-nil, All-push, All-tail, All-take, All-weaker, all_joined, AllocError, AllPass-from_list_all, and_parts, AnEvent, answer_on, answer_to, answering, Answering, answers_next, ap, append-nil, append_assoc, AreFrames, AreRegisters, AreTold, arith, Arrivals, Ask, asks_of, AssemblyFailed, at_most, at_next_stop, Bad, beat, Beat, beat_by, beat_of, beats, Become, becomes, Beginning, Bool, by_move, by_success, by_tick, BySuccess, byte_at, bytes_eq, bytes_from, bytes_of, can_begin, Cancel, cancelled_by, cancels, closing, codes, Command, concludes, cond, cond-false, cond-true, Connect, Continue, Cut, Debugged, Debuggee, demand_of, departed, Done, drop, drop-append_seam, DropConnection, each_ends, each_life, Effect, Ended, ended, ending_of, ends, enough, entered, entry_checked, eqb, eqb-false, eqb-true, Err, error_text, Exit, exit_events, exits, false, fault_at, fed_in, FileUnreadable, Filter, find_at, first_address, first_program, first_run, first_told, flat_map, Frame, frame_first, frame_said, FULL, get_or, Given, given_of, GivesBytes, Goal, goes, goes_on, goes_unless, halts, HangUp, Happened, Hart, has_bytes, has_ended, has_none, has_program, HasTexts, histories, Hold, holding, hung_on, if_keeps, IfOk, Indexed, inl, inr, Instr, InstructionBreakpoint, is_above, is_active, is_at_limit, is_ended, is_named, is_repeat, is_runnable_by, is_running, is_same, is_some, is_success, is_taken_in, is_to_end, is_to_stand, IsEditor, IsPrefixOf, issues, IsTick, IsTold, IsTrue, joined, known_within, LAST_CONNECTION, leaves, leaving, leb, led_append, left, length, length-append, Life, life_of, Link, List, list_any-append, loads, log_event, logged, looked_at, Looks, looks_in, lt-ltb, ltb, ltb-false, ltb-true, makes_move, map, map-append, Mark, marked, marked_by, MatchOption, Meets, MemFault, memory_after, Message, MessageError, Met, minimal_frame, MirrorsHoldWhatWasSo, MOST_PENDING, MOST_PIECE, moved, moved_as, moves_by, name_answer, name_of, Named, nat_tests, Next, next_by, next_tick, next_turn, no_life, None, not, NotWritable, Now, number_for, number_of, Numbers, of_answer, Ok, on_program, Open, Option, outcome_at, outcome_next, output_events, part, Partial, Pending, pending_with, performed, performed_append, performed_on, Phase, Position, Program, reached, Reached, read, read_on, reading_is_right, ReadMemory, ReadMemoryArguments, Recv, reference_in, referred, refl, Refusal, Refused, Registers, Replied, replied_on, requests_in, Response, response_to, ResponseBody, restarted, Result, resumed, ReverseContinue, ReverseGo, Run, run_of, runs, Said, said_next, said_on, saying, Seen, seen_in, Sent, sent_in, Session, set_in, SetBreakpoints, SetExceptionBreakpoints, SetFunctionBreakpoints, SetInstructionBreakpoints, SetsList, Setting, setting_of, settled, SetVariableArguments, Slice, slice_get, sliced, SliceEnd, Slicing, Some, Stack, StackTrace, start, start_at, start_by, step_body, StepBack, StepIn, StepOut, Stepped, steps, stop_event, stopped, Stopped, stops, subst, suc, success_of, sym, Table, TailIs, Take, take, take-append-add, take-append-drop, take-append_seam, Target, target_of, Tell, telling, tells, Terms, the_tick, Threads, Tick, told, told_first, TooMuch, Trap, true, Turn, turn_by, turn_of, undone_by, unless_zero, value_of, Variable, Variables, VariablesArguments, View, view_of, Wanted, Went, WereSo, Whole, Why, why_marked, with_beat, with_bytes, with_functions, with_hart, with_instructions, with_list, with_register, with_said, with_source, with_targets, word_of, Writing, writings_fit, written, zero, ℕ, ℤ, ⊤, ◌&&◌, ◌++◌, ◌+◌, ◌-◌, ◌<◌, ◌^◌, ◌||◌, ◌∙◌, ◌∷◌, ◌≡◌, ◌≤◌, ◌⊎◌}
 pub use Rattle.session_laws.proofs.Joined.{at_end, histories_follow, program_of}
 pub use Rattle.session_laws.proofs.Turning.{beat_keeps, begins_so, Both, BoundsIn, KeptByEvents, outcome_keeps, reached_by_events}
 pub use Rattle.session_laws.specs.Concluding.{known_after, last_seen, remembered, told_within, WasSo, WhatIsKnownWasSo}
@@ -44,4 +47,3 @@ pub use Rattle.std.specs.Option.{option_or}
 pub use Rattle.std.specs.Prelude.{find, nat_le, option_and_then, option_map, slice_index, unwrap_or, ◌%◌}
 pub use Rattle.stepping.specs.declared.tick.Outcome.{Outcome}
 pub use Rattle.variables.specs.Numbers.{has, number_from, number_in, with_all, with_one}
-pub use Rattle.variables.specs.declared.target.Target.TheVariants.{Frame}

@@ -1,12 +1,8 @@
 -- An editor tells its mirror requests and feeds it bytes, in turn: the facts are those of the whole messages among these bytes.
-use Rattle.session_laws.proofs.Headline.Common.{[], All, All-head, All-nil, All-tail, ap, append-nil, append_assoc, arith, Ask, Asked, asked_of, Bad, Bool, bytes_of, cond, cond-false, cond-true, drop, eqb, Facts, false, first_asked, fold, folded, frame_said, get_or, if_keeps, inl, inr, IsEvent, kept_first, known_after, le-leb, leb, leb-true, length, length-append, Life, List, lt-leb, map, map-append, Message, None, nothing_known, Option, option_map, option_or, refl, remembered, Request as ARequest, Response as IsResponse, Said, Some, subst, sym, take, take-append-drop, told, told_of, told_within, true, ℕ, ◌++◌, ◌-◌, ◌∙◌, ◌∷◌, ◌≡◌, ◌≤◌, ◌⊎◌}
-use Rattle.std.proofs.Math.Seq.{drop-append_seam, take-append_seam}
+use Rattle.session_laws.proofs.Headline.Common.{[], All, All-head, All-nil, All-tail, ap, append-nil, append_assoc, AreTold, arith, Ask, Asked, asked_of, Bad, bytes_of, cond, cond-false, cond-true, drop, drop-append_seam, eqb, Facts, fed_in, first_asked, first_told, fold, folded, frame_said, get_or, if_keeps, inl, inr, IsEditor, IsEvent, IsPrefixOf, IsTold, known_after, known_within, le-leb, leb, leb-true, length, length-append, Life, List, lt-leb, map, map-append, Message, None, nothing_known, Option, option_map, option_or, refl, remembered, Request as ARequest, requests_in, Response as IsResponse, Said, sent_in, Some, subst, sym, take, take-append-drop, take-append_seam, told, told_first, told_of, told_within, ℕ, ◌++◌, ◌-◌, ◌∙◌, ◌∷◌, ◌≡◌, ◌≤◌, ◌⊎◌}
 use Rattle.mirror.specs.Streams.{Input, Past, after, after_input, messages_so_far, newly_whole, nothing_past, stream_fault, with_piece, with_request}
 use Rattle.mirror.specs.Streams.Input.{Sent, Fed}
-use Rattle.session.specs.Prefixes.{IsPrefixOf}
 use Rattle.queues.specs.declared.pending.Ask.TheVariants.{Request}
-use Rattle.session_laws.specs.Editors.{AreTold, IsEditor, IsTold, fed_in, first_told, requests_in, sent_in, told_first}
-use Rattle.session_laws.specs.Headline.{known_within}
 use Rattle.session_laws.proofs.Headline.Remembering.{answers_same, known_append}
 use Rattle.session_laws.proofs.Headline.Readable.{framed_some, has_no_fault, IsReadable, messages_within}
 
@@ -23,23 +19,12 @@ asked_by found = option_map (λ (r : ARequest). asked_of r.command) found
 
 told_append : (xs ys : List ARequest) (n : ℕ) → first_told (xs ++ ys) n ≡ option_or (first_told xs n) (first_told ys n)
 told_append [] ys n = refl
-told_append (r ∷ xs) ys n = by (eqb r.seq n) (told_append xs ys n) where
-  by : (b : Bool) → first_told (xs ++ ys) n ≡ option_or (first_told xs n) (first_told ys n)
-      → cond b (Some r) (first_told (xs ++ ys) n) ≡ option_or (cond b (Some r) (first_told xs n)) (first_told ys n)
-  by true rest = refl
-  by false rest = rest
+told_append (r ∷ xs) ys n = grind (arith, told_append xs ys n)
 
 told_then : (asked : ℕ → Option Asked) (told : List ARequest) (r : ARequest) (n : ℕ) → asked n ≡ asked_by (first_told told n)
     → told_of asked r.seq (asked_of r.command) n ≡ asked_by (first_told (told ++ r ∷ []) n)
 unfolding asked_by
-told_then asked told r n e =
-    by (first_told told n) (eqb r.seq n) (asked n) e ∙ ap asked_by (sym (told_append told (r ∷ []) n)) where
-      by : (found : Option ARequest) (b : Bool) (x : Option Asked) → x ≡ asked_by found
-          → cond b (kept_first (asked_of r.command) x) x ≡ asked_by (option_or found (cond b (Some r) None))
-      by None true x e = ap (kept_first (asked_of r.command)) e
-      by None false x e = e
-      by (Some q) true x e = ap (kept_first (asked_of r.command)) e
-      by (Some q) false x e = e
+told_then asked told r n e = grind (arith, told_append told (r ∷ []) n)
 
 -- ---- messages that come
 
@@ -134,7 +119,7 @@ module _ (life : Life) (readable : All IsReadable life.said) where
   makes [] sent past prefix time h = h.facts ∙ ap (λ (l : List ℕ). known_within (length l) life) (sym (append-nil past.bytes))
   makes (Sent r ∷ inputs) sent past prefix time h =
       makes inputs (sent ++ r ∷ []) (with_request past r) prefix
-      (λ before rest is. subst (λ (rs : List ARequest). AllTold rs (past.bytes ++ fed_in before)) (sym (append_assoc sent (r ∷ []) (sent_in before)))
+      (λ before rest is. rw (append_assoc sent (r ∷ []) (sent_in before))
       (time (Sent r ∷ before) rest (ap (λ (l : List Input). Sent r ∷ l) is)))
       (record { asked = λ n. told_then past.asked sent r n (h.asked n); facts = h.facts })
   makes (Fed piece ∷ inputs) sent past prefix time h =
@@ -142,10 +127,9 @@ module _ (life : Life) (readable : All IsReadable life.said) where
       let same = append_assoc past.bytes piece (fed_in inputs) in
       let first = subst (λ (l : List ℕ). IsPrefixOf l (bytes_of life)) (sym same) prefix in
       let later : InTime sent fed inputs =
-      λ before rest is. subst (λ (l : List ℕ). AllTold (sent ++ sent_in before) l) (sym (append_assoc past.bytes piece (fed_in before)))
+      λ before rest is. rw (append_assoc past.bytes piece (fed_in before))
       (time (Fed piece ∷ before) rest (ap (λ (l : List Input). Fed piece ∷ l) is)) in
-      let told = subst (λ (rs : List ARequest). AllTold rs fed) (append-nil sent)
-      (subst (λ (l : List ℕ). AllTold (sent ++ []) l) (append-nil fed) (later [] inputs refl)) in
+      let told = rw (append-nil sent, append-nil fed) at (later [] inputs refl) in
       makes inputs sent (with_piece past piece) first later (piece_makes sent past piece (sooner fed (fed_in inputs) first) told h)
       ∙ ap (λ (l : List ℕ). known_within (length l) life) same
 
@@ -180,11 +164,9 @@ nothing_or_all [] piece (Fed x ∷ y ∷ before) rest is = absurd (let no : y �
 nothing_or_all [] piece (Sent q ∷ before) rest is = absurd (let no : Sent q ≡ Fed piece = cc in cc)
 nothing_or_all (r ∷ rs) piece (Fed x ∷ before) rest is = absurd (let no : Fed x ≡ Sent r = cc in cc)
 nothing_or_all (r ∷ rs) piece (Sent q ∷ before) rest is =
-    by (let same : q ≡ r = cc in same)
-    (nothing_or_all rs piece before rest (let others : before ++ rest ≡ map Sent rs ++ Fed piece ∷ [] = cc in others)) where
-      by : q ≡ r → (fed_in before ≡ []) ⊎ (sent_in before ≡ rs) → (fed_in before ≡ []) ⊎ (q ∷ sent_in before ≡ r ∷ rs)
-      by same (inl none) = inl none
-      by same (inr all) = inr (cc)
+    let same : q ≡ r = cc in
+    let others : before ++ rest ≡ map Sent rs ++ Fed piece ∷ [] = cc in
+    grind (arith, nothing_or_all rs piece before rest others)
 
 pub fed_first : (rs : List ARequest) (piece : List ℕ) → fed_in (map Sent rs ++ Fed piece ∷ []) ≡ piece
 fed_first [] piece = append-nil piece
@@ -192,17 +174,13 @@ fed_first (r ∷ rs) piece = fed_first rs piece
 
 pub is_editor : (life : Life) (count : ℕ) → IsEditor life (told_first life count)
 is_editor life count = record {
-  bytes =
-      subst (λ (l : List ℕ). IsPrefixOf l (bytes_of life)) (sym (fed_first (requests_in life.heard) (take count (bytes_of life))))
+  bytes = rw (fed_first (requests_in life.heard) (take count (bytes_of life)))
       (drop count (bytes_of life), sym (take-append-drop count (bytes_of life)));
   in_time =
       λ before rest is. in_time before (nothing_or_all (requests_in life.heard) (take count (bytes_of life)) before rest is);
 } where
   in_time : (before : List Input) → (fed_in before ≡ []) ⊎ (sent_in before ≡ requests_in life.heard) → AreTold life before
   in_time before (inl none) =
-      subst (λ (l : List Said). All (λ (m : Said). IsTold (sent_in before) life.heard m.message) l)
-      (sym (ap (λ (l : List ℕ). told_within (length l) life.said) none ∙ none_within_0 life.said))
-      (All-nil (λ (m : Said). IsTold (sent_in before) life.heard m.message))
+      rw (none, none_within_0 life.said) (All-nil (λ (m : Said). IsTold (sent_in before) life.heard m.message))
   in_time before (inr all) =
-      subst (λ (rs : List ARequest). All (λ (m : Said). IsTold rs life.heard m.message) (told_within (length (fed_in before)) life.said))
-      (sym all) (λ k d _. was_told life.heard (get_or (told_within (length (fed_in before)) life.said) k d).message)
+      rw all (λ k d _. was_told life.heard (get_or (told_within (length (fed_in before)) life.said) k d).message)

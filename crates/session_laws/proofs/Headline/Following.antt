@@ -1,12 +1,9 @@
 -- What a turn queues, and what the beats of a slice queue, where it makes no move, or one that comes first.
-use Rattle.session_laws.proofs.Headline.Common.{[], after_beat, All, answer_to, Answering, answering, ap, as_running, Beat, beat, becomes, closing, concludes, Effect, Ended, ended, ending_of, ends, entered, exit_events, false, HangUp, histories, is_running, IsFollowed, Link, List, logged, makes_move, map, Message, moved, None, Numbers, on, on_with, Option, Outcome as CameTo, output_events, Pending, performed, performed_on, Program, program_of, refl, Response as IsResponse, response_to, Running, said_on, seen_now, Session, shown_of, Sight, sight, sight_by, SliceEnd, Snapshot, snapshot_of, Some, stop_event, Stopped, stopped, stops, subst, sym, Tell, tells, Tick, told, true, Turn, Went, Why, why_marked, with_change, ℕ, ◌++◌, ◌∙◌, ◌∷◌, ◌≡◌}
+use Rattle.session_laws.proofs.Headline.Common.{[], after_answer, after_beat, All, answer_to, Answering, answering, ap, arith, as_running, beat, Beat, beat_by, beat_of, becomes, Bool, closing, concludes, cond, Effect, ended, Ended, ending_of, ends, entered, exit_events, false, FULL, goes_unless, HangUp, histories, is_runnable_by, is_running, IsFollowed, Link, List, logged, ltb, makes_move, map, Mark, Message, Met, moved, None, not, Numbers, on, on_with, Option, Outcome as CameTo, output_events, Pending, performed, performed_on, Program, program_of, refl, Response as IsResponse, response_to, Running, said_on, Seen, seen_now, Session, shown_of, sight, Sight, sight_by, SliceEnd, Snapshot, snapshot_of, Some, stop_event, stopped, Stopped, stops, subst, sym, Tell, tells, Tick, told, true, Turn, Went, Why, with_change, ℕ, ℤ, ◌++◌, ◌∙◌, ◌∷◌, ◌≡◌}
 use mathlib.Core.Path.{fun_ext}
-use Rattle.debuggee.specs.declared.run.Why.TheVariants as why
 use Rattle.session.specs.declared.event.SliceEnd.TheVariants as ending
-use Rattle.session_laws.proofs.Joined.{never_spent}
 use Rattle.session_laws.proofs.Headline.Agreeing.{never, OwesOf, OwesRunning}
-use Rattle.session_laws.proofs.Headline.ByBeat.{by_beat, ByBeat, enters, tells_owed}
-use Rattle.session_laws.proofs.Headline.ByEvent.{after_answer, by_turn, ByTurn}
+use Rattle.session_laws.proofs.Cases.{by_beat, each_turn, EachTurn, ends_with, enters_at, tells_tick}
 use Rattle.session_laws.proofs.Headline.Owing.{exits_plain, one_plain, Plain}
 use Rattle.session_laws.proofs.Headline.Beating.{entered_same}
 use Rattle.session_laws.proofs.Headline.Leaving.{answer_is_mild}
@@ -72,7 +69,7 @@ concluding t p tick o = record {
 
 -- what is owed is told
 pub tells_follow : (s t : Session) (p : Program) (tick : Tick) → program_of t ≡ Some p → is_running p.run ≡ true → Printed s t
-    → Follows s t (tells_owed t.now p tick)
+    → Follows s t (tells_tick t.now p tick)
 unfolding Shows
 tells_follow s t p tick is run h = by tick.outcome where
   by : (o : CameTo) → Follows s t (concluding t p tick o)
@@ -83,11 +80,12 @@ tells_follow s t p tick is run h = by tick.outcome where
       (λ body. (refl, runs_seen (told p) t.now.numbers run)) refl)
       (printed_still s t f (seen_is t p is) h))
   by (Stopped reason) =
-      let f = seen_of t (Some (stopped (why.Met reason) (told p))) in
+      let f = seen_of t (Some (stopped (Met reason) (told p))) in
       ends_follow s t (concluding t p tick (Stopped reason)) ending.Stopped f refl
       (output_shows (FitsTo f) (EndsAt f) (after t p) t.now tick.printed (logged p.machine.lists)
       (concludes t.now (told p) (Stopped reason) p.machine.lists.ids) (λ body. runs_seen (told p) t.now.numbers run)
-      (becomes_show (after t p) t.now (stopped (why.Met reason) (told p)) (stop_event (why.Met reason) p.machine.lists.ids ∷ []) (one_plain _ refl)))
+      (becomes_show (after t p) t.now (stopped (Met reason) (told p)) (stop_event (Met reason) p.machine.lists.ids ∷ [])
+      (one_plain _ refl)))
       (printed_fits s t f (seen_is t p is) h)
   by (Ended code) =
       let f = seen_of t (Some (ended (Some code) (told p))) in
@@ -97,60 +95,70 @@ tells_follow s t p tick is run h = by tick.outcome where
       (becomes_show (after t p) t.now (ended (Some code) (told p)) (exit_events code) (exits_plain code)))
       (printed_fits s t f (seen_is t p is) h)
 
--- ---- a beat of a slice that has no move to make
+-- the program ends
+exits_follow : (s t : Session) (p : Program) (code : ℤ) → Queued (FitsTo (seen_of t (Some (ended (Some code) p)))) s t
+    → Follows s t (ends_with t.now p code)
+exits_follow s t p code q =
+    ends_follow s t _ ending.Ended (seen_of t (Some (ended (Some code) p))) refl
+    (becomes_show (snapshot_of t.now) t.now (ended (Some code) p) (exit_events code) (exits_plain code)) q
 
-abbrev StillFollows : Session → Session → Option Program → Beat → Beat → Type 0
-StillFollows s t program still b = program_of t ≡ program → OwesOf program → Printed s t → Follows s t still
-
-still_beats : (s t : Session) → ByBeat (histories.see t) (StillFollows s t)
+-- a beat, by what one that makes a move leaves
+beat_follows : (s t : Session) (more : Bool) → OwesOf (program_of t) → Printed s t
+    → ((p : Program) → more ≡ true → Follows s t (makes_move t.now p)) → Follows s t (beat (histories.see t) more)
 unfolding Shows
-still_beats s t = record {
-  rests = λ program e is _ h. rests_follow s t e h;
-  owed = λ p tick e is owes h. tells_follow s t p tick is (owes (λ none. never tick (sym none ∙ e))) h;
-  checks = λ p g is _ h.
-      let f = seen_of t (Some (entered p)) in
-      goes_follow s t (enters t.now p) (acts_seen PrintsTo f (enters t.now p).acts s t refl (printed_still s t f (seen_is t p is ∙ checked_same p t.now.numbers) h));
-  halts_marked = λ p mark g is _ h. stops_follow s t p (why_marked mark) (printed_fits s t _ (seen_is t p is) h);
-  makes = λ p g is _ h. rests_follow s t ending.Spent h;
-  halts_moving = λ p why g is _ h. rests_follow s t ending.Spent h;
-  ends_moving = λ p code g is _ h. rests_follow s t ending.Spent h;
-}
+beat_follows s t more owes h makes =
+    by_beat (program_of t) (histories.see t) more (Follows s t) (λ _. rests_follow s t ending.Idle h) (λ p is. record {
+      tells = λ tick e. tells_follow s t p tick is (subst OwesOf is owes (λ none. never tick (sym none ∙ e))) h;
+      ends_for = λ e _ _. rests_follow s t e h;
+      stops_for = λ reason _ _. stops_follow s t p reason (printed_fits s t _ (seen_is t p is) h);
+      exits_with = λ code _ _ _. exits_follow s t p code (printed_fits s t _ (seen_is t p is) h);
+      enters = λ _ _ _.
+          let f = seen_of t (Some (entered p)) in
+          goes_follow s t (enters_at t.now p)
+          (acts_seen PrintsTo f (enters_at t.now p).acts s t refl (printed_still s t f (seen_is t p is ∙ checked_same p t.now.numbers) h));
+      moves = λ _ _ _ some _. makes p some;
+    })
 
+-- of a slice that has no move to make
 pub still_follows : (s t : Session) → OwesOf (program_of t) → Printed s t → Follows s t (beat (histories.see t) false)
-still_follows s t owes h = by_beat (histories.see t) (StillFollows s t) (still_beats s t) (program_of t) false refl owes h
+still_follows s t owes h = beat_follows s t false owes h (λ p some. absurd (cc))
 
--- ---- the first beat of a slice that may make a move, from where nothing is owed
-
--- such a beat ends the slice, or makes a move
+-- The first beat of a slice that may make a move, from where nothing is owed, ends the slice, or makes a move.
 pub record Begins (s : Session) (b : Beat) : Type 0 where
   pub follows : Follows s s b
   pub moved : b.ending ≡ None → b.moved ≡ 1
 
-begins_by : (s : Session) (b : Beat) (e : SliceEnd) → b.ending ≡ Some e → Follows s s b → Begins s b
-begins_by s b e is h = record { follows = h; moved = λ none. never e (sym none ∙ is) }
+-- it ends the slice, or makes a move, if it would end it for want of moves
+abbrev Moves : Beat → Beat → Type 0
+Moves still b = still ≡ ends ending.Spent → b.ending ≡ None → b.moved ≡ 1
 
-abbrev FirstBegins : Session → Option Program → Beat → Beat → Type 0
-FirstBegins s program still b = still ≡ ends ending.Spent → Begins s b
+either : (b : Bool) (x y z : Beat) → Moves x x → Moves y z → Moves (cond b x y) (cond b x z)
+either true x y z f g = f
+either false x y z f g = g
 
-first_beats : (s : Session) → ByBeat (histories.see s) (FirstBegins s)
+one_move : (owed : Option Tick) (seen : Seen) (p : Program) → Moves (beat_by owed seen p false) (beat_by owed seen p true)
+one_move (Some tick) seen p = λ rest goes. never ending.Spent (sym goes ∙ ap (λ (b : Beat). b.ending) rest)
+one_move None seen p =
+    either (not (is_runnable_by seen.now.link p.run)) _ _ _ (λ _ e. absurd (cc))
+    (either (ltb FULL seen.waits) _ _ _ (λ _ e. absurd (cc)) (by p.mark)) where
+      by : (m : Option Mark) → Moves (goes_unless m seen.now p false) (goes_unless m seen.now p true)
+      by (Some m) = λ rest e. absurd (cc)
+      by None = either p.machine.check_due _ _ _ (λ rest _. never ending.Spent (ap (λ (b : Beat). b.ending) rest)) (λ _ e. grind arith)
+
+moves_one : (program : Option Program) (seen : Seen) → beat_of program seen false ≡ ends ending.Spent
+    → (beat_of program seen true).ending ≡ None → (beat_of program seen true).moved ≡ 1
+moves_one None seen rest goes = absurd (cc)
+moves_one (Some p) seen rest goes = one_move p.owed seen p rest goes
+
+pub first_begins : (s : Session) → OwesOf (program_of s) → beat (histories.see s) false ≡ ends ending.Spent
+    → Begins s (beat (histories.see s) true)
 unfolding Shows
-first_beats s = record {
-  rests = λ program e _. begins_by s (ends e) e refl (rests_follow s s e (nothing_queued (PrintsTo (seen_now s)) s));
-  owed = λ p tick e rest. absurd (never_spent tick.outcome (ap (λ (b : Beat). b.ending) rest));
-  checks = λ p g rest. never ending.Spent (ap (λ (b : Beat). b.ending) rest);
-  halts_marked = λ p mark g _. begins_by s _ ending.Stopped refl (stops_follow s s p (why_marked mark) (nothing_queued (FitsTo _) s));
-  makes = λ p g _.
+first_begins s owes rest = record {
+  follows = beat_follows s s true owes (nothing_queued (PrintsTo (seen_now s)) s) (λ p _.
       let f = seen_of s (Some (moved p)) in
-      record { follows = goes_follow s s (makes_move s.now p) (acts_seen PrintsTo f (makes_move s.now p).acts s s refl (nothing_queued (PrintsTo f) s)); moved = λ _. refl };
-  halts_moving = λ p why g _. begins_by s _ ending.Stopped refl (stops_follow s s p why (nothing_queued (FitsTo _) s));
-  ends_moving = λ p code g _.
-      let f = seen_of s (Some (ended (Some code) p)) in
-      begins_by s _ ending.Ended refl
-      (ends_follow s s _ ending.Ended f refl (becomes_show (snapshot_of s.now) s.now (ended (Some code) p) (exit_events code) (exits_plain code)) (nothing_queued (FitsTo f) s));
+      goes_follow s s (makes_move s.now p) (acts_seen PrintsTo f (makes_move s.now p).acts s s refl (nothing_queued (PrintsTo f) s)));
+  moved = moves_one (program_of s) (histories.see s) rest;
 }
-
-pub first_begins : (s : Session) → beat (histories.see s) false ≡ ends ending.Spent → Begins s (beat (histories.see s) true)
-first_begins s rest = by_beat (histories.see s) (FirstBegins s) (first_beats s) (program_of s) true rest
 
 -- ---- an answer
 
@@ -173,9 +181,9 @@ answering_told l p rest s a plain =
 
 -- ---- a turn
 
-turns_follow : (file : Option (List ℕ)) → ByTurn file (λ s t. OwesOf (program_of s) → IsFollowed s t)
+turns_follow : (file : Option (List ℕ)) → EachTurn file (λ s acts. OwesOf (program_of s) → IsFollowed s (performed histories acts s))
 turns_follow file = record {
-  stays = λ s _. followed s s (nothing_queued (FitsTo (seen_now s)) s);
+  nothing = λ s _. followed s s (nothing_queued (FitsTo (seen_now s)) s);
   answers = λ l p rest s nothing _.
       let t = on_with (Some l) (p ∷ rest) s in
       answering_told l p rest s (answer_to t.now l.terms file p) (answer_is_mild t.now l.terms file p nothing).1;
@@ -186,4 +194,5 @@ turns_follow file = record {
 }
 
 pub turn_told : (s : Session) (file : Option (List ℕ)) → OwesOf (program_of s) → IsFollowed s (Effect s (Turn file))
-turn_told s file = by_turn file (λ s t. OwesOf (program_of s) → IsFollowed s t) (turns_follow file) s.now.link s
+turn_told s file =
+    each_turn file (λ s acts. OwesOf (program_of s) → IsFollowed s (performed histories acts s)) (turns_follow file) s.now.link s

@@ -1,19 +1,12 @@
 -- Each success answers the first request that came with its number.
-use Rattle.replies.specs.declared.response.Outcome.{Outcome}
-use Rattle.session_laws.proofs.Headline.Common.{[], All, All-head, All-map, All-nil, All-push, All-tail, All-weaker, all_joined, AllKnown, and_parts, answer_to, Answering, answering, ap, append-nil, append_assoc, arith, Arrivals, Ask, asks_of, Bad, Beginning, Bool, Cancelled, cancelled_by, cancels, cond, cond-false, demand_of, Done, each_life, eq-eqb, eqb, Event as Told, false, Fate, fate_of_cancel, first_asked, given_of, Happened, histories, if_keeps, is_above, is_named, is_repeat, is_taken_in, IsEvent, IsKnown, IsKnownBy, IsKnownIn, joined, KeptByEvents, le-ltb, Link, List, ltb, ltb-false, ltb-true, map, Meets, Message, ne_eqb, None, not-true, Now, number_of, of_answer, on, on_with, Option, option_or, Pending, pending_with, performed, performed_on, Reached, reached_by_events, read_on, refl, Refusal, Refused, refusing, Repeated, replied_on, Request as ARequest, Response as IsResponse, response_to, run_of, Said, said_next, said_on, saying, Session, Some, start, subst, success_of, SuccessesAreKnown, sym, Tell, Terms, true, Waits, with_change, ℕ, ⊤, ◌++◌, ◌+◌, ◌∙◌, ◌∷◌, ◌≡◌}
-use Rattle.protocol.specs.Commands.{name_of}
+use Rattle.session_laws.proofs.Headline.Common.{[], after_answer, All, All-head, All-map, All-nil, All-push, All-tail, All-weaker, all_joined, AllKnown, and_parts, answer_to, answering, Answering, ap, append-nil, append_assoc, arith, Arrivals, Ask, asks_of, Bad, Beginning, Cancelled, cancelled_by, cancels, cond-false, demand_of, Done, each_life, eq-eqb, eqb, Event as Told, false, Fate, fate_of_cancel, first_asked, given_of, Happened, histories, if_keeps, is_above, is_named, is_repeat, is_taken_in, IsEvent, IsKnown, IsKnownBy, IsKnownIn, joined, KeptByEvents, le-ltb, Link, List, ltb, map, Meets, Message, name_of, nat_tests, ne_eqb, None, not-true, Now, number_of, of_answer, on, on_with, Option, option_or, Pending, pending_with, performed, performed_on, Reached, reached_by_events, read_on, refl, Refusal, refusing, Repeated, replied_on, Request as ARequest, Response as IsResponse, response_to, run_of, Said, said_by, said_next, saying, Session, Some, start, success_of, SuccessesAreKnown, sym, Tell, Terms, true, Waits, with_change, ℕ, ⊤, ◌++◌, ◌+◌, ◌∙◌, ◌∷◌, ◌≡◌}
 use Rattle.queues.specs.declared.pending.Ask.TheVariants.{Request}
-use Rattle.session_laws.proofs.Headline.ByEvent.{after_answer}
 
 -- ---- more requests come
 
 first_append : (xs ys : List Ask) (number : ℕ) → first_asked (xs ++ ys) number ≡ option_or (first_asked xs number) (first_asked ys number)
 first_append [] ys number = refl
-first_append (Request r ∷ xs) ys number = by (eqb r.seq number) (first_append xs ys number) where
-  by : (b : Bool) → first_asked (xs ++ ys) number ≡ option_or (first_asked xs number) (first_asked ys number)
-      → cond b (Some r) (first_asked (xs ++ ys) number) ≡ option_or (cond b (Some r) (first_asked xs number)) (first_asked ys number)
-  by true rest = refl
-  by false rest = rest
+first_append (Request r ∷ xs) ys number = grind (arith, first_append xs ys number)
 first_append (Bad seq command refusal ∷ xs) ys number = first_append xs ys number
 
 -- the first stays, and where there is none the next is
@@ -22,12 +15,7 @@ first_more xs ys number r e =
     first_append xs ys number ∙ ap (λ (x : Option ARequest). option_or x (first_asked ys number)) e
 
 said_more : (xs ys : List Ask) (m : Message) → IsKnownIn xs m → IsKnownIn (xs ++ ys) m
-said_more xs ys (IsResponse r) k = by r.outcome k where
-  by : (o : Outcome) → IsKnownBy xs r.request_seq r.command o → IsKnownBy (xs ++ ys) r.request_seq r.command o
-  by (Done body) k =
-      record { request = k.request; first = first_more xs ys r.request_seq k.request k.first; named = k.named }
-  by (Refused refusal text) k = tt
-said_more xs ys (IsEvent e) k = tt
+said_more xs ys m k = grind (arith, first_more)
 
 -- ---- requests that wait
 
@@ -49,28 +37,23 @@ pub record Kept (asks : List Ask) (came : Arrivals) : Type 0 where
   pub waits : All (WaitsFirst asks) came.pending
 
 is_first_more : (xs ys : List Ask) (ask : Ask) → IsFirst xs ask → IsFirst (xs ++ ys) ask
-is_first_more xs ys (Request r) e = first_more xs ys r.seq r e
-is_first_more xs ys (Bad seq command refusal) e = tt
+is_first_more xs ys ask e = grind (arith, first_more)
 
 none_yet : (highest : Option ℕ) (asks : List Ask) (number : ℕ) → Within highest asks → is_above highest number ≡ true
     → first_asked asks number ≡ None
 none_yet highest [] number h e = refl
-none_yet highest (ask ∷ asks) number h e =
-    by ask (All-head (λ (a : Ask). is_above highest (number_of a) ≡ false) ask asks h)
-    (none_yet highest asks number (All-tail (λ (a : Ask). is_above highest (number_of a) ≡ false) ask asks h) e)
-  where
-    by : (ask : Ask) → is_above highest (number_of ask) ≡ false → first_asked asks number ≡ None → first_asked (ask ∷ asks) number ≡ None
-    by (Request r) low rest =
-        cond-false (eqb r.seq number) _ _ (ne_eqb r.seq number
-        (λ same. let no : true ≡ false = sym e ∙ sym (ap (is_above highest) same) ∙ low in cc)) ∙ rest
-    by (Bad seq command refusal) low rest = rest
+none_yet highest (Bad seq command refusal ∷ asks) number h e =
+    none_yet highest asks number (All-tail (λ (a : Ask). is_above highest (number_of a) ≡ false) (Bad seq command refusal) asks h) e
+none_yet highest (Request r ∷ asks) number h e =
+    let low = All-head (λ (a : Ask). is_above highest (number_of a) ≡ false) (Request r) asks h in
+    cond-false (eqb r.seq number) _ _
+    (ne_eqb r.seq number (λ same. let no : true ≡ false = sym e ∙ sym (ap (is_above highest) same) ∙ low in cc))
+    ∙ none_yet highest asks number (All-tail (λ (a : Ask). is_above highest (number_of a) ≡ false) (Request r) asks h) e
 
 comes_first : (highest : Option ℕ) (asks : List Ask) (ask : Ask) → Within highest asks → is_above highest (number_of ask) ≡ true
     → IsFirst (asks ++ ask ∷ []) ask
 comes_first highest asks (Request r) h e =
-    first_append asks (Request r ∷ []) r.seq
-    ∙ ap (λ (x : Option ARequest). option_or x (first_asked (Request r ∷ []) r.seq)) (none_yet highest asks r.seq h e)
-    ∙ ap (λ b. let none : Option ARequest = None in cond b (Some r) none) (eq-eqb r.seq r.seq refl)
+    grind (arith, first_append asks (Request r ∷ []) r.seq, none_yet highest asks r.seq h e, eq-eqb r.seq r.seq refl)
 comes_first highest asks (Bad seq command refusal) h e = tt
 
 -- ---- a request comes
@@ -91,9 +74,7 @@ waits_with asks (Some id) pending ask h first =
 
 -- whatever is not above the highest is not above one that is
 not_above : (highest : Option ℕ) (low high : ℕ) → is_above highest low ≡ false → is_above highest high ≡ true → ltb high low ≡ false
-not_above None low high a b = absurd (let no : true ≡ false = a in cc)
-not_above (Some highest) low high a b =
-    let few = ltb-false highest low a in let more = ltb-true highest high b in le-ltb high low (omega (arith, few, more))
+not_above highest low high a b = grind (arith, nat_tests)
 
 joined_keeps : (asks : List Ask) (came : Arrivals) (ask : Ask) → Kept asks came → Kept (asks ++ ask ∷ []) (joined came ask)
 joined_keeps asks came ask h =
@@ -114,10 +95,9 @@ joined_keeps asks came ask h =
     })
 
 all_joined_keep : (more asks : List Ask) (came : Arrivals) → Kept asks came → Kept (asks ++ more) (all_joined came more)
-all_joined_keep [] asks came h = subst (λ (l : List Ask). Kept l came) (sym (append-nil asks)) h
+all_joined_keep [] asks came h = rw (append-nil asks) h
 all_joined_keep (ask ∷ more) asks came h =
-    subst (λ (l : List Ask). Kept l (all_joined (joined came ask) more)) (append_assoc asks (ask ∷ []) more)
-    (all_joined_keep more (asks ++ ask ∷ []) (joined came ask) (joined_keeps asks came ask h))
+    rw (← append_assoc asks (ask ∷ []) more) (all_joined_keep more (asks ++ ask ∷ []) (joined came ask) (joined_keeps asks came ask h))
 
 -- ---- the answer to a request
 
@@ -139,10 +119,8 @@ answer_is_known : (asks : List Ask) (now : Now) (terms : Terms) (file : Option (
     → (let a = answer_to now terms file p in IsKnownBy asks (number_of p.ask) (response_to p.ask a.outcome).command a.outcome)
 answer_is_known asks now terms file p first =
     of_waiting (λ ask a. IsKnownBy asks (number_of ask) (response_to ask a.outcome).command a.outcome) asks now terms file p first (λ _. tt)
-    (λ r first _ _. by r _ (record { request = r; first = first; named = refl })) where
-      by : (r : ARequest) (outcome : Outcome) → IsKnown asks r.seq (name_of r.command) → IsKnownBy asks r.seq (name_of r.command) outcome
-      by r (Done body) k = k
-      by r (Refused refusal text) k = tt
+    (λ r first _ _. let k : IsKnown asks r.seq (name_of r.command) = record { request = r; first = first; named = refl } in
+    elim (success_of (given_of now) terms file r.command).outcome as (IsKnownBy asks r.seq (name_of r.command)) [ Done _ ↦ k | _ ↦ tt ])
 
 -- ---- a session
 
@@ -171,12 +149,9 @@ saying_keeps l m rest s known waits h = record {
 
 all_told_keep : (events : List Told) (s : Session) → Knows s → Knows (performed histories (map Tell events) s)
 all_told_keep [] s h = h
-all_told_keep (e ∷ es) s h = all_told_keep es (performed_on (Tell e) s) (by s.now.link s h) where
-  by : (l : Option Link) (s : Session) → Knows (on l s) → Knows (said_on l (IsEvent e) s.now.arrivals.pending (on l s))
-  by None s h = h
-  by (Some l) s h =
-      if_keeps Knows (ltb l.seq s.now.limits.last_seq) _ _ (λ _. saying_keeps l (IsEvent e) s.now.arrivals.pending s tt h.asks.waits h)
-      (λ _. h)
+all_told_keep (e ∷ es) s h =
+    all_told_keep es (performed_on (Tell e) s) (said_by Knows s.now.link (IsEvent e) s.now.arrivals.pending s
+    (λ l _ x. saying_keeps l (IsEvent e) s.now.arrivals.pending s tt x.asks.waits x) h)
 
 answering_keeps : (l : Link) (p : Pending) (rest : List Pending) (s : Session) (a : Answering)
     → IsKnownBy s.life.heard (number_of p.ask) (response_to p.ask a.outcome).command a.outcome

@@ -1,17 +1,12 @@
 -- What a program does and tells, act by act, and what an answer does: each thing that is told is so, and in the end what is
 -- known fits.
-use Rattle.session_laws.proofs.Headline.Common.{[], Act, Active, answered, Answering, Asked, Become, Bool, BoundsIn, Command, concludes, cond, Configuring, demand_of, ended, Ended as HasEnded, Event, Event as Told, exit_events, Facts, false, given_of, happened, HasEnded as HasEndedSo, Holds, HoldsRun, if_keeps, in_state, is_active, is_active_in, is_running, is_taken_in, List, log_event, logged, map, MatchOption, Meets, None, Now, Numbers, Option, OrderlyIn, Outcome as CameTo, output_events, Phase, Program, refl, Refusal, refusing, Run, run_of, Running, runs, RunState, shown_by, shown_of, Some, state_of, stop_event, stopped, Stopped as HasStopped, subst, sym, Tell, telling, Terms, Tick, told, true, Unknown, Went, Why, ℕ, ℤ, ⊤, ◌++◌, ◌∙◌, ◌∷◌, ◌≡◌}
-use Rattle.replies.specs.declared.event.Event.TheVariants as event
-use Rattle.debuggee.specs.declared.run.Run.TheVariants as a_run
-use Rattle.debuggee.specs.declared.run.Why.TheVariants as why
+use Rattle.session_laws.proofs.Headline.Common.{[], Act, Active, answered, Answering, arith, Asked, Become, Bool, BoundsIn, Command, concludes, cond, Configuring, demand_of, ended, Ended as HasEnded, Event, Event as Told, exit_events, Facts, false, given_of, GivesBytes, happened, Holds, HoldsRun, if_keeps, in_state, is_active, is_active_in, is_running, is_taken_in, List, log_event, logged, map, MatchOption, Meets, Met, None, Now, Numbers, Option, OrderlyIn, Outcome as CameTo, Output, output_events, OwesNothing, Phase, Program, referred, refl, Refusal, refusing, Run, run_of, Running, runs, RunState, shown_by, shown_of, Some, state_of, stop_event, stopped, Stopped as HasStopped, subst, sym, Tell, telling, Terms, Tick, told, true, Went, Why, ℕ, ℤ, ⊤, ◌++◌, ◌∷◌, ◌≡◌}
 use Rattle.facts.specs.declared.run.RunState.TheVariants.{Stopped, Ended}
-use Rattle.range_laws.specs.Requests.{GivesBytes}
-use Rattle.session.specs.References.{referred}
-use Rattle.session_laws.proofs.Headline.Agreeing.{Agrees, ended_agrees, in_agrees, IsQuiet, moving_agrees, nothing_holds, OwesNothing, SameBreaks, suits_as, SuitsPhase}
+use Rattle.session_laws.proofs.Headline.Agreeing.{Agrees, ended_agrees, in_agrees, IsQuiet, moving_agrees, nothing_holds, SameBreaks, suits_as, SuitsPhase}
 use Rattle.session_laws.proofs.Headline.Remembering.{refused_tells}
 
 -- What holds of no event, and with each event of output more, holds of the output of a tick.
-module _ (P : List Event → Type 0) (none : P []) (more : (body : _) (es : List Event) → P es → P (event.Output body ∷ es)) where
+module _ (P : List Event → Type 0) (none : P []) (more : (body : _) (es : List Event) → P es → P (Output body ∷ es)) where
   by_logs : (texts : List (List ℕ)) → P (map log_event texts)
   by_logs [] = none
   by_logs (text ∷ texts) = more _ (map log_event texts) (by_logs texts)
@@ -22,7 +17,7 @@ module _ (P : List Event → Type 0) (none : P []) (more : (body : _) (es : List
 
 -- output is told of a program that runs
 abbrev pub Prints : Told → Option Program → Type 0
-Prints (event.Output output) program = MatchOption program ⊥ (λ p. is_running p.run ≡ true)
+Prints (Output output) program = MatchOption program ⊥ (λ p. is_running p.run ≡ true)
 Prints _ program = ⊤
 
 -- what these acts tell is so, and what is known after them fits
@@ -41,34 +36,26 @@ SoThenLeads terms numbers program events f = Holds f (shown_by program numbers) 
 
 -- what is known of a program that runs suits it once it is in another state that nobody is told of
 quiet_holds : (run : RunState) (so now : RunState) → IsQuiet run → HoldsRun run so → so ≡ Running → HoldsRun run now
-quiet_holds Unknown so now q h e = tt
-quiet_holds (Ended None) so now q h e = absurd (subst HasEndedSo e h)
-quiet_holds (Ended (Some code)) so now q h e = absurd (let no : Ended (Some code) ≡ Running = sym h ∙ e in cc)
-quiet_holds _ so now q h e = absurd q
+quiet_holds run so now q h e = grind arith
 
 -- it is the same program, but for how it runs
 abbrev pub SameBut : Program → Program → Type 0
 SameBut p q = (numbers more : Numbers) → SameBreaks (shown_of p numbers) (shown_of q more)
 
 pub running_state : (run : Run) → is_running run ≡ true → state_of run ≡ Running
-running_state a_run.Running e = refl
-running_state _ e = absurd (let no : false ≡ true = e in cc)
+running_state run e = grind arith
 
 -- nobody is told: what is known fits still
 silent_agrees : (f : Facts) (p q : Program) (numbers : Numbers) (terms : Terms) → is_active_in terms.phase ≡ false → is_running p.run ≡ true
     → SameBut p q → Agrees f (Some p) numbers terms → Agrees f (Some q) numbers terms
-silent_agrees f p q numbers terms other runs same h = record {
-  holds = by terms.phase other h.phase;
-  moving = λ _. h.moving runs;
-  numbered = h.numbered;
-  phase = h.phase;
-} where
-  by : (phase : Phase) → is_active_in phase ≡ false → SuitsPhase phase terms.launched f → Holds f (shown_of q numbers)
-  by Configuring other suits =
-      (moving_agrees f (shown_of p numbers) q numbers (record terms { phase = Configuring }) suits.stand h.holds (same numbers numbers)
-      (quiet_holds f.run (state_of p.run) (state_of q.run) suits.quiet h.holds.run (running_state p.run runs)) suits).holds
-  by Active other suits = absurd (let no : true ≡ false = other in cc)
-  by _ other suits = subst (λ (g : Facts). Holds g (shown_of q numbers)) (sym suits) (nothing_holds false (shown_of q numbers))
+silent_agrees f p q numbers terms other runs same h =
+    record { holds = by terms.phase other h.phase; moving = λ _. h.moving runs; numbered = h.numbered; phase = h.phase } where
+      by : (phase : Phase) → is_active_in phase ≡ false → SuitsPhase phase terms.launched f → Holds f (shown_of q numbers)
+      by Configuring other suits =
+          (moving_agrees f (shown_of p numbers) q numbers (record terms { phase = Configuring }) suits.stand h.holds (same numbers numbers)
+          (quiet_holds f.run (state_of p.run) (state_of q.run) suits.quiet h.holds.run (running_state p.run runs)) suits).holds
+      by Active other suits = absurd (let no : true ≡ false = other in cc)
+      by _ other suits = subst (λ (g : Facts). Holds g (shown_of q numbers)) (sym suits) (nothing_holds false (shown_of q numbers))
 
 module _ (terms : Terms) (numbers : Numbers) (f : Facts) where
   pub stops_lead : (p : Program) (why : Why) (ids : List ℕ) (told : Bool) → is_active_in terms.phase ≡ told → is_running p.run ≡ true
@@ -100,7 +87,7 @@ module _ (terms : Terms) (numbers : Numbers) (f : Facts) where
       → Leads terms numbers f (Some p) (concludes now p outcome ids)
   unfolding Leads
   concludes_lead now p Went ids e runs h = h
-  concludes_lead now p (HasStopped reason) ids e runs h = stops_lead p (why.Met reason) ids (is_active now.link) e runs h
+  concludes_lead now p (HasStopped reason) ids e runs h = stops_lead p (Met reason) ids (is_active now.link) e runs h
   concludes_lead now p (HasEnded code) ids e runs h = ends_lead p code (is_active now.link) e runs h
 
   -- output tells nothing that an editor would conclude from

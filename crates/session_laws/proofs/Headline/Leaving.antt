@@ -1,23 +1,11 @@
 -- The success of each command: what it tells is so, and what it leaves owes as it may.
-use Rattle.session_laws.proofs.Headline.Common.{[], address_in, agreed_body, agreeing, agrees, All, answer_to, Answering, ap, Asked, asked_of, at_next_stop, Bool, by_success, BySuccess, Command, ended, ends, Facts, false, first_run, frames_given, given_of, goes_on as still_goes, has_none, has_program, if_keeps, in_state, is_active_in, is_ended, is_running, IsTrue, left, List, Looks, marked, None, not, not_absent, nothing_known, Now, of_answer, Ok, on_program, Option, Orderly, OrderlyIn, OrderlyOf, Pending, Program, refl, ResponseBody, restarted, resumed, resuming, Run, run_events, run_of, Running, runs, SetsList, Some, step_body, steps, stop_event, stopped, subst, succeeded, success_of, sym, take, tells, Terms, true, Wanted, with_functions, with_hart, with_instructions, with_source, with_targets, written, ℕ, ◌&&◌, ◌+◌, ◌∙◌, ◌≡◌}
-use Rattle.numerals.specs.Words.{word_of}
-use Rattle.answers.specs.Targets.{target_of}
+use Rattle.session_laws.proofs.Headline.Common.{[], address_in, agreed_body, agreeing, agrees, All, answer_on, answer_to, Answering, ap, arith, Asked, asked_of, AssemblyFailed, at_next_stop, by_success, BySuccess, Cancel, Command, departed, Empty, ended, ends, error_text, Facts, false, FileUnreadable, first_run, frames_given, Given, given_of, goes_on as still_goes, has_none, has_program, in_state, is_active_in, is_to_end, is_to_stand, IsTrue, left, List, loads, Looks, marked, None, nothing_known, Now, of_answer, Ok, on_program, Option, Orderly, OrderlyIn, OrderlyOf, OwesNothing, Pending, Program, ReadMemory, refl, ResponseBody, restarted, resumed, resuming, Run, run_events, run_of, Running, runs, seen_in, SetBreakpoints, SetExceptionBreakpoints, SetFunctionBreakpoints, SetInstructionBreakpoints, SetsList, Some, StackTrace, step_body, steps, stop_event, subst, succeeded, success_of, sym, take, target_of, tells, Terms, Threads, true, Variables, view_of, Wanted, with_hart, with_list, with_targets, word_of, written, ℕ, ◌+◌, ◌∙◌, ◌≡◌}
 use Rattle.debuggee.specs.declared.run.Mark.TheVariants as mark
-use Rattle.debuggee.specs.declared.run.Why.TheVariants as why
 use Rattle.debuggee.specs.declared.run.Run.TheVariants as a_run
-use Rattle.replies.specs.declared.response.ResponseBody.TheVariants as body
 use Rattle.mirror.specs.declared.asked.Asked.TheVariants as asks
-use Rattle.protocol.specs.declared.command.Command.TheVariants.{Threads, Cancel, SetBreakpoints, SetFunctionBreakpoints, SetInstructionBreakpoints, SetExceptionBreakpoints, Continue, Next, StepIn, StepOut, StepBack, ReverseContinue, StackTrace, Variables, ReadMemory}
 use Rattle.replies.specs.declared.event.Event.TheVariants as event
-use Rattle.handlers.specs.Breaks.{with_list}
-use Rattle.handlers.specs.Views.{view_of}
-use Rattle.handlers.specs.Disconnect.{departed, is_to_end, is_to_stand}
 use Rattle.handlers.specs.Initialize.{agreed}
-use Rattle.handlers.specs.Launch.{error_text, loads}
-use Rattle.protocol.specs.declared.refusal.Refusal.TheVariants.{AssemblyFailed, FileUnreadable}
-use Rattle.session.proofs.Breaking.{answer_on}
-use Rattle.handlers.specs.Looking.{seen_in}
-use Rattle.session_laws.proofs.Headline.Agreeing.{Agrees, marked_agrees, nothing_agrees, nothing_owed, owes_nothing, OwesNothing, OwesOf, OwesRunning, Stands}
+use Rattle.session_laws.proofs.Headline.Agreeing.{Agrees, marked_agrees, nothing_agrees, nothing_owed, OwesOf, OwesRunning, Stands}
 use Rattle.session_laws.proofs.Headline.Owing.{IsMild, marked_owes, none_plain, one_plain, Plain}
 use Rattle.session_laws.proofs.Headline.Leading.{alone, AnswerLeads, Comes, refusal_leads, SameBut, SoThenLeads}
 use Rattle.session_laws.proofs.Headline.Resuming.{attach_agrees, done_leads, goes_on_agrees, initialize_agrees, launch_agrees, restarted_same, resumed_same, terminate_leads, with_event}
@@ -28,18 +16,6 @@ use Rattle.session_laws.proofs.Headline.Listing.{functions_set_so, instructions_
 
 -- ---- what is left owes as it may
 
-departed_owes : (ends stands : Bool) (p : Program) → p.owed ≡ None → OwesRunning (departed ends stands p)
-departed_owes ends stands p e =
-    if_keeps OwesRunning (ends && not (is_ended p.run)) (ended None p) _ (λ _. nothing_owed (ended None p) e)
-    (λ _. if_keeps OwesRunning (stands && is_running p.run) (stopped why.Pause p) p (λ _. nothing_owed (stopped why.Pause p) e)
-    (λ _. nothing_owed p e))
-
-listed_owes : (c : Command) (list : List Wanted) (p : Program) → p.owed ≡ None → OwesRunning (with_list c list p)
-listed_owes (SetBreakpoints arguments) list p e = nothing_owed (with_source list p) e
-listed_owes (SetFunctionBreakpoints arguments) list p e = nothing_owed (with_functions list p) e
-listed_owes (SetInstructionBreakpoints arguments) list p e = nothing_owed (with_instructions list p) e
-listed_owes other list p e = nothing_owed p e
-
 joined_plain : (run : Option Run) → All Plain (run_events run)
 joined_plain None = none_plain
 joined_plain (Some a_run.Running) = one_plain event.Continued refl
@@ -48,13 +24,10 @@ joined_plain (Some (a_run.Ended code)) = none_plain
 
 module _ (now : Now) (terms : Terms) (e : OwesNothing now.debuggee.program) where
   same : OwesOf now.debuggee.program × All Plain []
-  same = (owes_nothing now.debuggee.program e, none_plain)
+  same = (grind arith, none_plain)
 
   makes : (f : Program → Program) → ((p : Program) → p.owed ≡ None → OwesRunning (f p)) → OwesOf (on_program f now.debuggee.program)
-  makes f each = by now.debuggee.program e where
-    by : (program : Option Program) → OwesNothing program → OwesOf (on_program f program)
-    by None e = tt
-    by (Some p) e = each p e
+  makes f each = grind (arith, each)
 
   successes_are_mild : BySuccess (given_of now) terms (λ c a. IsMild a)
   successes_are_mild = record {
@@ -69,13 +42,12 @@ module _ (now : Now) (terms : Terms) (e : OwesNothing now.debuggee.program) wher
     restarts = (makes (λ p. first_run (restarted p)) (λ p _ _. refl), none_plain);
     terminates = (makes (ended None) (λ p n. nothing_owed (ended None p) n), one_plain event.Terminated refl);
     leaves = λ arguments. let ends = is_to_end terms arguments in let stands = is_to_stand terms arguments in
-        (makes (λ p. departed ends stands (left p)) (λ p _. departed_owes ends stands (left p) refl), none_plain);
+        (makes (λ p. departed ends stands (left p)) (λ p _. grind arith), none_plain);
     pauses = λ _. (makes (marked mark.Pause) (λ p n. marked_owes mark.Pause p (nothing_owed p n)), none_plain);
     stepped = λ _ _ g. (makes (resumed g) (λ p _ _. refl), none_plain);
-    absent = λ _ _ _. same;
     refused = λ _ _ _ _. same;
     sets_none = λ _ _ _ _ _ _ _. same;
-    sets_list = λ c _ _ _ list _ _ _ _. (makes (with_list c list) (listed_owes c list), none_plain);
+    sets_list = λ c _ _ _ list _ _ _ _. (makes (with_list c list) (λ p n. grind arith), none_plain);
     shows = λ _ _ _ _ _ _ _ _. same;
     sets_register = λ _ _ setting _ _ _. (makes (with_hart setting.hart) (λ p n. nothing_owed (with_hart setting.hart p) n), none_plain);
     writes = λ arguments _ writing _ _ _. let writes = written writing.address (take writing.count arguments.bytes) in
@@ -86,7 +58,7 @@ pub answer_is_mild : (now : Now) (terms : Terms) (file : Option (List ℕ)) (p :
     → IsMild (answer_to now terms file p)
 answer_is_mild now terms file p e =
     of_answer (λ ask a. IsMild a) now terms file p.ask p.fate (λ _ _. same now terms e)
-    (λ r _ _. by_success (given_of now) terms (λ c a. IsMild a) (successes_are_mild now terms e) file r.command)
+    (λ r _ meets. by_success (given_of now) terms (λ c a. IsMild a) (successes_are_mild now terms e) file r.command meets.loaded)
 
 -- ---- what is told is so
 
@@ -94,33 +66,24 @@ answer_is_mild now terms file p e =
 abbrev LeadsTaken : Now → Terms → Facts → Command → Answering → Type 0
 LeadsTaken now terms f c a = Comes now terms c → AnswerLeads now f (Some (asked_of c)) a
 
-agreed_tells : (c : Command) → IsTrue (agrees c) → (f : Facts) → succeeded (agreed_body c) (asked_of c) f ≡ f
-agreed_tells Threads kind f = refl
-agreed_tells (Cancel arguments) kind f = refl
-agreed_tells SetExceptionBreakpoints kind f = refl
-agreed_tells other kind f = absurd (let no : false ≡ true = kind in cc)
+agreed_tells : (given : Given) (c : Command) → IsTrue (agrees c) → (f : Facts) → succeeded (agreed_body given c) (asked_of c) f ≡ f
+agreed_tells given Threads kind f = refl
+agreed_tells given (Cancel arguments) kind f = refl
+agreed_tells given SetExceptionBreakpoints kind f = refl
+agreed_tells given other kind f = absurd (let no : false ≡ true = kind in cc)
 
 step_tells : (c : Command) → IsTrue (steps c) → (f : Facts) → succeeded (step_body c) (asked_of c) f ≡ in_state Running f
-step_tells (Continue arguments) kind f = refl
-step_tells (Next arguments) kind f = refl
-step_tells (StepIn arguments) kind f = refl
-step_tells (StepOut arguments) kind f = refl
-step_tells (StepBack arguments) kind f = refl
-step_tells (ReverseContinue arguments) kind f = refl
-step_tells other kind f = absurd (let no : false ≡ true = kind in cc)
+step_tells c kind f = grind arith
 
 module _ (now : Now) (terms : Terms) (f : Facts) (h : Agrees f now.debuggee.program now.numbers terms) where
   -- an answer after which the program is as it was, or this is made of it
   same_leads : (g : Facts) (p : Program) → now.debuggee.program ≡ Some p → Agrees g (Some p) now.numbers terms
       → SoThenLeads terms now.numbers now.debuggee.program [] g
-  same_leads g p is a =
-      alone g now.debuggee.program now.numbers terms (subst (λ (program : Option Program). Agrees g program now.numbers terms) (sym is) a)
+  same_leads g p is a = alone g now.debuggee.program now.numbers terms (rw is a)
 
   made_leads : (g : Facts) (makes : Program → Program) (p : Program) → now.debuggee.program ≡ Some p
       → Agrees g (Some (makes p)) now.numbers terms → SoThenLeads terms now.numbers (on_program makes now.debuggee.program) [] g
-  made_leads g makes p is a =
-      alone g (on_program makes now.debuggee.program) now.numbers terms
-      (subst (λ (program : Option Program). Agrees g (on_program makes program) now.numbers terms) (sym is) a)
+  made_leads g makes p is a = alone g (on_program makes now.debuggee.program) now.numbers terms (rw is a)
 
   of : (p : Program) → now.debuggee.program ≡ Some p → Agrees f (Some p) now.numbers terms
   of p is = subst (λ (program : Option Program). Agrees f program now.numbers terms) is h
@@ -137,9 +100,9 @@ module _ (now : Now) (terms : Terms) (f : Facts) (h : Agrees f now.debuggee.prog
   orderly : (p : Program) → now.debuggee.program ≡ Some p → OrderlyIn now.debuggee → Orderly p
   orderly p is o = subst OrderlyOf is o
 
-  agrees_so : (c : Command) → IsTrue (agrees c) → AnswerLeads now f (Some (asked_of c)) (agreeing (given_of now) terms (agreed_body c))
+  agrees_so : (c : Command) → IsTrue (agrees c) → AnswerLeads now f (Some (asked_of c)) (agreeing (given_of now) terms (agreed_body (given_of now) c))
   agrees_so c kind =
-      subst (SoThenLeads terms now.numbers now.debuggee.program []) (sym (agreed_tells c kind f))
+      subst (SoThenLeads terms now.numbers now.debuggee.program []) (sym (agreed_tells (given_of now) c kind f))
       (alone f now.debuggee.program now.numbers terms h)
 
   resumes_so : (asked : Asked) (body : ResponseBody) (makes : Program → Program) → succeeded body asked f ≡ in_state Running f
@@ -156,11 +119,13 @@ module _ (now : Now) (terms : Terms) (f : Facts) (h : Agrees f now.debuggee.prog
       → ((answer_on p (given_of now) terms c).list ≡ None → Agrees (succeeded b (asked_of c) f) (Some p) now.numbers terms)
       × ((list : List Wanted) → (answer_on p (given_of now) terms c).list ≡ Some list → Agrees (succeeded b (asked_of c) f) (Some (with_list c list p)) now.numbers terms)
   set_so (SetBreakpoints arguments) kind comes p b is e =
-      source_set_so f p now.numbers terms comes.taken (of p is) arguments p.image.lines (view_of terms p) (now.debuggee.last_break + 1) refl b e
+      rw e at (source_set_so f p now.numbers terms comes.taken (of p is) arguments p.image.lines (view_of terms p)
+      (now.debuggee.last_break + 1) refl)
   set_so (SetFunctionBreakpoints arguments) kind comes p b is e =
-      functions_set_so f p now.numbers terms comes.taken (of p is) arguments p.image.lines p.machine.size (now.debuggee.last_break + 1) b e
+      rw e at (functions_set_so f p now.numbers terms comes.taken (of p is) arguments p.image.lines p.machine.size
+      (now.debuggee.last_break + 1))
   set_so (SetInstructionBreakpoints arguments) kind comes p b is e =
-      instructions_set_so f p now.numbers terms comes.taken (of p is) arguments p.machine.size (now.debuggee.last_break + 1) b e
+      rw e at (instructions_set_so f p now.numbers terms comes.taken (of p is) arguments p.machine.size (now.debuggee.last_break + 1))
   set_so other kind comes p b is e = absurd (let no : false ≡ true = kind.sets in cc)
 
   look_tells : (c : Command) → Looks c → Comes now terms c → (p : Program) (b : ResponseBody) → now.debuggee.program ≡ Some p
@@ -171,10 +136,10 @@ module _ (now : Now) (terms : Terms) (f : Facts) (h : Agrees f now.debuggee.prog
       (with_targets now.numbers (frames_given arguments p.machine)) terms) _ b
       (frames_agree arguments p now.numbers (view_of terms p) f terms (stands p is comes.taken comes.meets.still)) e
   look_tells (Variables arguments) kind comes p b is e =
-      variables_agree f p now.numbers terms (stands p is comes.taken comes.meets.still) b arguments
-      (target_of now.numbers arguments.variables_reference) e
+      rw e at (variables_agree f p now.numbers terms (stands p is comes.taken comes.meets.still) arguments
+      (target_of now.numbers arguments.variables_reference))
   look_tells (ReadMemory arguments) kind comes p b is e =
-      read_agrees f p now.numbers terms (stands p is comes.taken comes.meets.still) b arguments (word_of arguments.memory_reference) e
+      rw e at (read_agrees f p now.numbers terms (stands p is comes.taken comes.meets.still) arguments (word_of arguments.memory_reference))
   look_tells other kind comes p b is e = other_tells_so now terms other (asked_of other) f p b kind.looks refl (of p is)
 
   successes_lead : BySuccess (given_of now) terms (LeadsTaken now terms f)
@@ -196,7 +161,7 @@ module _ (now : Now) (terms : Terms) (f : Facts) (h : Agrees f now.debuggee.prog
     joined = λ e comes. done_leads now terms f false e comes.taken comes.meets.loaded h;
     agreed = λ c kind _. agrees_so c kind.kind;
     restarts =
-        λ comes. resumes_so asks.Resume body.Empty (λ p. first_run (restarted p)) refl comes.taken
+        λ comes. resumes_so asks.Resume Empty (λ p. first_run (restarted p)) refl comes.taken
         (λ p. refl) restarted_same comes.meets.loaded;
     terminates = λ comes. terminate_leads now terms f comes.taken comes.meets h;
     leaves = λ _ _. alone nothing_known _ (at_next_stop now.numbers) _ (nothing_agrees false _ (at_next_stop now.numbers) _ refl);
@@ -204,7 +169,6 @@ module _ (now : Now) (terms : Terms) (f : Facts) (h : Agrees f now.debuggee.prog
     stepped = λ c kind g comes.
         resumes_so (asked_of c) (step_body c) (resumed g) (step_tells c kind.kind f) (sym (kind.active terms.phase) ∙ comes.taken)
         (λ p. refl) (resumed_same g) (has_program (given_of now) c kind.loaded comes.meets.loaded);
-    absent = λ c about none comes. not_absent (given_of now) c about comes.meets.loaded none;
     refused = λ c _ refusal _ _. refusal_leads now terms f (Some (asked_of c)) refusal None h;
     sets_none = λ c kind p b is e none comes. same_leads _ p is ((set_so c kind comes p b is e).0 none);
     sets_list = λ c kind p b list is e some _ comes. made_leads _ (with_list c list) p is ((set_so c kind comes p b is e).1 list some);
@@ -225,4 +189,4 @@ pub commands_lead : (now : Now) (terms : Terms) (file : Option (List ℕ)) (comm
     → Agrees f now.debuggee.program now.numbers terms
     → AnswerLeads now f (Some (asked_of command)) (success_of (given_of now) terms file command)
 commands_lead now terms file command f comes h =
-    by_success (given_of now) terms (LeadsTaken now terms f) (successes_lead now terms f h) file command comes
+    by_success (given_of now) terms (LeadsTaken now terms f) (successes_lead now terms f h) file command comes.meets.loaded comes

@@ -1,6 +1,6 @@
 -- `setBreakpoints`, `setFunctionBreakpoints` and `setInstructionBreakpoints`: the breakpoints that their successes tell
 -- are those that are set.
-use Rattle.session_laws.proofs.Headline.Common.{[], ap, Asked, Bool, BreakInfo, bytes_eq, cond, cons_option, Err, Facts, false, filter_map, fresh, HoldsAt, if_keeps, info_of, is_debugging_in, length, List, listed, Lists, ltb, map, None, Numbers, Ok, Option, Program, refl, Refusal, ResponseBody, Result, shown_of, slice_get, Some, subst, succeeded, sym, tells, Terms, true, verified_at, verified_instruction, Wanted, with_functions, with_instructions, with_source, ℕ, ◌+◌, ◌∙◌, ◌∷◌, ◌≡◌}
+use Rattle.session_laws.proofs.Headline.Common.{[], ap, Asked, Bool, BreakInfo, bytes_eq, cond, cons_option, Err, Facts, false, filter_map, fresh, HoldsAt, if_keeps, IfOk, info_of, InstructionBreakpoint, is_debugging_in, length, List, listed, Lists, ltb, map, None, Numbers, Ok, Option, Program, refl, Refusal, ResponseBody, Result, shown_of, slice_get, Some, succeeded, sym, Table, tells, Terms, true, verified_at, verified_instruction, View, Wanted, with_functions, with_instructions, with_source, ℕ, ◌+◌, ◌∙◌, ◌∷◌, ◌≡◌}
 use Rattle.std.proofs.lemmas.Slice.Eq.{bytes_eq-Decides}
 use Rattle.answers.specs.Breakpoints.{Answer, entries_of, followed_by, list_of, next_after}
 use Rattle.answers.specs.SetBreakpoints as source
@@ -9,17 +9,13 @@ use Rattle.answers.specs.SetFunctionBreakpoints as function
 use Rattle.answers.specs.SetFunctionBreakpoints.{set_function_breakpoints}
 use Rattle.answers.specs.SetInstructionBreakpoints as instruction
 use Rattle.answers.specs.SetInstructionBreakpoints.{Place, set_instruction_breakpoints}
-use Rattle.answers.specs.declared.view.View.{View}
-use Rattle.image.specs.Lines.{Table}
 use Rattle.mirror.specs.declared.asked.Asked.TheVariants as asks
 use Rattle.protocol.specs.declared.set_breakpoints.SetBreakpointsArguments.{SetBreakpointsArguments}
 use Rattle.protocol.specs.declared.set_breakpoints.SourceBreakpoint.{SourceBreakpoint}
 use Rattle.protocol.specs.declared.set_function_breakpoints.SetFunctionBreakpointsArguments.{SetFunctionBreakpointsArguments}
 use Rattle.protocol.specs.declared.set_instruction_breakpoints.SetInstructionBreakpointsArguments.{SetInstructionBreakpointsArguments}
-use Rattle.message_parts.specs.declared.set_instruction_breakpoints.InstructionBreakpoint.{InstructionBreakpoint}
 use Rattle.replies.specs.declared.response.ResponseBody.TheVariants as body
 use Rattle.session_laws.proofs.Headline.Agreeing.{Agrees, KnowsNoStand, never, suits_on}
-use Rattle.session_laws.proofs.Headline.Valuing.{no_body, that_body}
 
 -- ---- the entries of an answer, and the list that is set
 
@@ -92,10 +88,8 @@ module _ (f : Facts) (p : Program) (numbers : Numbers) (terms : Terms) (taken : 
   own_source : (path : List ℕ) (breaks : List BreakInfo) (list : List Wanted) → path ≡ p.path → breaks ≡ infos list
       → Agrees (record f { source = listed path breaks f.source }) (Some (with_source list p)) numbers terms
   own_source path breaks list same is =
-      subst (λ (own : List ℕ). Agrees (record f { source = listed own breaks f.source }) (Some (with_source list p)) numbers terms) (sym same)
-      (subst (λ (l : List BreakInfo). Agrees (record f { source = listed p.path l f.source }) (Some (with_source list p)) numbers terms) (sym is)
-      (breaks_agree (listed p.path (infos list) f.source) f.instructions f.functions (with_source list p).machine.lists
-      (λ asked. by (bytes_eq p.path asked) asked (h.holds.source asked)) h.holds.instructions h.holds.functions)) where
+      rw (same, is) (breaks_agree (listed p.path (infos list) f.source) f.instructions f.functions (with_source list p).machine.lists
+      (λ asked. by (bytes_eq p.path asked) asked (h.holds.source asked)) h.holds.instructions h.holds.functions) where
         by : (b : Bool) (asked : List ℕ)
             → HoldsAt (slice_get (f.source asked)) (slice_get (cond b (map info_of p.machine.lists.source) []))
             → HoldsAt (slice_get (cond b (infos list) (f.source asked))) (slice_get (cond b (infos list) []))
@@ -119,32 +113,24 @@ module _ (f : Facts) (p : Program) (numbers : Numbers) (terms : Terms) (taken : 
   -- what an answer tells is so: by the list that it sets, or without one
   abbrev Sets : Asked → (List Wanted → Program → Program) → Answer → Type 0
   Sets asked set answer =
-      (b : ResponseBody) → answer.result ≡ Ok b → ((answer.list ≡ None → Told asked p b)
+      IfOk answer.result (λ b. (answer.list ≡ None → Told asked p b)
       × ((list : List Wanted) → answer.list ≡ Some list → Told asked (set list p) b))
 
   sets_own : (path : List ℕ) (own : Bool) → bytes_eq path p.path ≡ own
       → (table : Table) (view : View) (next : ℕ) (asked : List SourceBreakpoint)
       → Sets (asks.SetBreakpoints (Some path)) with_source (of_source own table view next asked)
-  sets_own path true same table view next asked = λ b e. (
+  sets_own path true same table view next asked = (
     λ none. absurd (cc),
     λ list is.
         let those : list_of (source.judged true table view.line_base) source.wanted next asked ≡ list = cc in
-        that_body (Told (asks.SetBreakpoints (Some path)) (with_source list p)) _ b
-        (own_source path _ list ((bytes_eq-Decides path p.path).0 same) (source_told table view.line_base next asked ∙ ap infos those)) e,
+        own_source path _ list ((bytes_eq-Decides path p.path).0 same) (source_told table view.line_base next asked ∙ ap infos those),
   )
-  sets_own path false other table view next asked = λ b e. (
-    λ _. that_body (Told (asks.SetBreakpoints (Some path)) p) _ b
-        (subst (λ (l : List BreakInfo). Agrees (record f { source = listed path l f.source }) (Some p) numbers terms)
-        (sym (none_told table view.line_base next asked)) (other_source path)) e,
-    λ list is. never list is,
-  )
+  sets_own path false other table view next asked =
+      (λ _. rw (none_told table view.line_base next asked) (other_source path), λ list is. never list is)
 
   by_path : (path : Option (List ℕ)) (table : Table) (view : View) (next : ℕ) (asked : List SourceBreakpoint) → view.path ≡ p.path
       → Sets (asks.SetBreakpoints path) with_source (of_source (is_own view.path path) table view next asked)
-  by_path None table view next asked same = λ b e. (
-    λ _. that_body (Told (asks.SetBreakpoints None) p) _ b h e,
-    λ list is. never list is,
-  )
+  by_path None table view next asked same = (λ _. h, λ list is. never list is)
   by_path (Some path) table view next asked same =
       sets_own path (bytes_eq path view.path) (ap (λ (x : List ℕ). bytes_eq path x) (sym same)) table view next asked
 
@@ -158,22 +144,19 @@ module _ (f : Facts) (p : Program) (numbers : Numbers) (terms : Terms) (taken : 
         list = Some (list_of judged instruction.wanted next those);
       }))
   sets_placed judged asked set made facts much refusal tells so next those =
-      if_keeps (Sets asked set) much _ _ (λ _ b e. no_body refusal b e)
-      (λ _ b e.
-      let entries = entries_of judged instruction.entry next those in (
+      if_keeps (Sets asked set) much _ _ (λ _. tt) (λ _. (
         λ none. absurd (cc),
         λ list is.
             let wanted : list_of judged instruction.wanted next those ≡ list = cc in
-            that_body (Told asked (set list p)) (made entries) b
-            (subst (λ (g : Facts). Agrees g (Some (set list p)) numbers terms)
-            (sym (tells entries ∙ ap facts (placed_told judged next those ∙ ap infos wanted))) (so list)) e,
+            rw (tells (entries_of judged instruction.entry next those) ∙ ap facts (placed_told judged next those ∙ ap infos wanted))
+            (so list),
       ))
 
   pub source_set_so : (arguments : SetBreakpointsArguments) (table : Table) (view : View) (next : ℕ) → view.path ≡ p.path
       → Sets (asks.SetBreakpoints arguments.source.path) with_source (set_breakpoints table view next arguments)
   source_set_so arguments table view next same =
       if_keeps (Sets (asks.SetBreakpoints arguments.source.path) with_source) (is_too_much arguments.breakpoints) _ _
-      (λ _ b e. no_body _ b e) (λ _. by_path arguments.source.path table view next arguments.breakpoints same)
+      (λ _. tt) (λ _. by_path arguments.source.path table view next arguments.breakpoints same)
 
   pub instructions_set_so : (arguments : SetInstructionBreakpointsArguments) (size next : ℕ)
       → Sets asks.SetInstructionBreakpoints with_instructions (set_instruction_breakpoints size next arguments)

@@ -1,9 +1,7 @@
 -- What an editor's mirror holds was so.
-use Rattle.session_laws.proofs.Headline.Common.{All, arith, Beginning, Happened, length, life_of, List, Reached, subst, sym, ℕ}
+use Rattle.session_laws.proofs.Headline.Common.{All, arith, Beginning, fed_in, Happened, length, life_of, List, MirrorsHoldWhatWasSo, Reached, subst, sym, WereSo, ℕ}
 use Rattle.session_laws.proofs.Proper.{answers_are_proper}
 use Rattle.session_laws.proofs.Messages.Numbered.{in_range}
-use Rattle.session_laws.specs.Editors.{fed_in}
-use Rattle.session_laws.specs.Headline.{MirrorsHoldWhatWasSo, WereSo}
 use Rattle.session_laws.proofs.Headline.Truth.{headline}
 use Rattle.session_laws.proofs.Headline.Readable.{IsReadable, IsShort}
 use Rattle.session_laws.proofs.Headline.Editing.{facts_made, no_fault}

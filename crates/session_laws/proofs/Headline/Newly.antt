@@ -2,8 +2,7 @@
 --
 -- What could be seen when a message was queued can still be seen at the end, with one exception: what the program
 -- printed, and what its logpoints say, was told while it ran, and it may have stopped since.
-use Rattle.session_laws.proofs.Headline.Common.{[], Act, All, All-head, All-nil, All-push, All-tail, All-weaker, ap, append-nil, append_assoc, as_running, Become, becomes, Bool, Event, false, histories, if_keeps, is_active, is_running, is_some, IsEvent, IsFollowed, Life, Link, List, ltb, map, Message, None, Now, Numbers, on, Option, output_events, Pending, performed, performed_on, Program, refl, Said, said_next, said_on, says_output, seen_at, seen_now, Session, shown_of, sight, Sight, sight_by, Snapshot, snapshot_of, Some, subst, sym, Tell, tells, true, ℕ, ℤ, ◌++◌, ◌∙◌, ◌∷◌, ◌≡◌}
-use Rattle.replies.specs.declared.event.Event.TheVariants as event
+use Rattle.session_laws.proofs.Headline.Common.{[], Act, All, All-head, All-nil, All-push, All-tail, All-weaker, ap, append-nil, append_assoc, arith, as_running, Become, becomes, Bool, Event, false, histories, if_keeps, is_active, is_running, is_some, IsEvent, IsFollowed, Life, Link, List, ltb, map, Message, None, Now, Numbers, on, Option, Output, output_events, Pending, performed, performed_on, Program, refl, Said, said_next, said_on, says_output, seen_at, seen_now, Session, shown_of, Sight, sight, sight_by, Snapshot, snapshot_of, Some, subst, sym, Tell, tells, true, ℕ, ℤ, ◌++◌, ◌∙◌, ◌∷◌, ◌≡◌}
 use Rattle.session_laws.proofs.Headline.Owing.{Plain}
 use Rattle.session_laws.proofs.Headline.Leading.{by_output, running_state}
 
@@ -38,11 +37,10 @@ followed s t q = record { news = q.news; newly = assumption }
 
 pub weaker : (Q R : Message → Snapshot → Type 0) (s t : Session) → ((m : Message) (seen : Snapshot) → Q m seen → R m seen) → Queued Q s t
     → Queued R s t
-weaker Q R s t f q = record {
-  news = q.news;
-  grows = q.grows;
-  all = All-weaker (λ (m : Said). Q m.message m.snapshot) (λ (m : Said). R m.message m.snapshot) (λ m. f m.message m.snapshot) q.news q.all;
-}
+weaker Q R s t f q =
+    let all = All-weaker (λ (m : Said). Q m.message m.snapshot) (λ (m : Said). R m.message m.snapshot)
+    (λ m. f m.message m.snapshot) q.news q.all in
+    record { news = q.news; grows = q.grows; all = all }
 
 pub printed_fits : (s t : Session) (f : Sight) → as_running (seen_now t) ≡ as_running f → Printed s t → Queued (FitsTo f) s t
 printed_fits s t f same =
@@ -54,13 +52,7 @@ printed_still s t f same = weaker (PrintsTo (seen_now t)) (PrintsTo f) s t (λ m
 pub nothing_queued : (R : Message → Snapshot → Type 0) (s : Session) → Queued R s s
 nothing_queued R s = record {
   news = [];
-  grows = record {
-    life = ap (λ (l : List Said). record s.life { said = l }) (sym (append-nil s.life.said));
-    before = refl;
-    connections = refl;
-    linked = refl;
-    silent = λ _. refl;
-  };
+  grows = assumption (ap (λ (l : List Said). record s.life { said = l }) (sym (append-nil s.life.said)));
   all = All-nil (λ (m : Said). R m.message m.snapshot);
 }
 
@@ -69,13 +61,8 @@ pub queued_as : (R : Message → Snapshot → Type 0) (s t u : Session) → u.li
     → u.now.connections ≡ t.now.connections → is_some u.now.link ≡ is_some t.now.link → Queued R s t → Queued R s u
 queued_as R s t u life before connections linked q =
     let g = q.grows in
-    let there : Grows s u q.news = record {
-      life = life ∙ g.life;
-      before = before ∙ g.before;
-      connections = connections ∙ g.connections;
-      linked = linked ∙ g.linked;
-      silent = g.silent;
-    } in
+    let there : Grows s u q.news =
+    assumption (life ∙ g.life, before ∙ g.before, connections ∙ g.connections, linked ∙ g.linked) in
     record { news = q.news; grows = there; all = q.all }
 
 -- ---- acts that make or tell something of the program
@@ -105,9 +92,7 @@ said_queued R s (Some l) m rest t so q =
 
 pub said_snapshot : (l : Option Link) (m : Message) (rest : List Pending) (t : Session)
     → snapshot_of (said_on l m rest (on l t)).now ≡ snapshot_of t.now
-said_snapshot None m rest t = refl
-said_snapshot (Some l) m rest t =
-    if_keeps (λ (x : Session). snapshot_of x.now ≡ snapshot_of t.now) (ltb l.seq t.now.limits.last_seq) _ _ (λ _. refl) (λ _. refl)
+said_snapshot l m rest t = grind arith
 
 -- what such acts tell is so by what can be seen then, and so is in the end what can be seen
 unfoldable pub Shows : (Message → Snapshot → Type 0) → (Snapshot → Type 0) → Snapshot → List Act → Type 0
@@ -168,7 +153,7 @@ runs_seen p numbers e =
     let is = running_state p.run e in λ i. record (sight_by (Some p) numbers) { facts = record (shown_of p numbers) { run = is i } }
 
 pub output_shows : (R : Message → Snapshot → Type 0) (E : Snapshot → Type 0) (seen : Snapshot) (now : Now) (printed : Option ℤ) (texts : List (List ℕ)) (acts : List Act)
-    → ((body : _) → R (IsEvent (event.Output body)) seen) → Shows R E seen acts → Shows R E seen (tells now (output_events printed texts) ++ acts)
+    → ((body : _) → R (IsEvent (Output body)) seen) → Shows R E seen acts → Shows R E seen (tells now (output_events printed texts) ++ acts)
 unfolding Shows
 output_shows R E seen now printed texts acts each rest =
     if_keeps (λ (x : List Act). Shows R E seen (x ++ acts)) (is_active now.link) _ []

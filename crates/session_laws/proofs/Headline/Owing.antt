@@ -1,10 +1,8 @@
 -- A program that owes something runs: whatever is done to it.
-use Rattle.session_laws.proofs.Headline.Common.{[], Act, All, All-cons, All-nil, Answering, append-nil, beat_of, Become, Bool, concludes, ended, Ended as HasEnded, Event as Told, exit_events, exits, false, halts, if_keeps, is_active, IsEvent, List, logged, map, Mark, marked, marked_by, None, Now, on_program, Option, Outcome as CameTo, output_events, Program, refl, Run, says_output, Seen, Some, stopped, Stopped as HasStopped, subst, Tell, telling, Tick, told, Went, Why, why_marked, ℕ, ℤ, ⊤, ◌++◌, ◌∷◌, ◌≡◌}
+use Rattle.session_laws.proofs.Headline.Common.{[], Act, All, All-cons, All-nil, Answering, append-nil, arith, beat_of, Become, Bool, concludes, ended, Event as Told, exit_events, Exited, exits, false, halts, if_keeps, is_active, IsEvent, List, logged, map, Mark, marked, marked_by, None, Now, on_program, Option, Outcome as CameTo, output_events, Program, refl, says_output, Seen, Some, stopped, subst, Tell, telling, Terminated, Tick, told, Why, ℕ, ℤ, ⊤, ◌++◌, ◌∷◌, ◌≡◌}
 use Rattle.debuggee.specs.declared.run.Run.TheVariants as a_run
-use Rattle.replies.specs.declared.event.Event.TheVariants as event
-use Rattle.debuggee.specs.declared.run.Why.TheVariants as why
 use Rattle.session_laws.proofs.Headline.Agreeing.{nothing_owed, OwesOf, OwesRunning}
-use Rattle.session_laws.proofs.Headline.ByBeat.{by_beat, ByBeat}
+use Rattle.session_laws.proofs.Cases.{by_running}
 
 -- each program that these acts leave owes as it may
 unfoldable pub AllOwe : List Act → Type 0
@@ -32,9 +30,7 @@ exits_owe now p code e = (nothing_owed (ended (Some code) p) e, if_keeps AllOwe 
 
 concludes_owe : (now : Now) (p : Program) (outcome : CameTo) (ids : List ℕ) → p.owed ≡ None → AllOwe (concludes now p outcome ids)
 unfolding AllOwe
-concludes_owe now p Went ids e = tt
-concludes_owe now p (HasStopped reason) ids e = halts_owe now p (why.Met reason) ids e
-concludes_owe now p (HasEnded code) ids e = exits_owe now p code e
+concludes_owe now p outcome ids e = grind (arith, halts_owe, exits_owe)
 
 pub telling_owes : (now : Now) (p : Program) (tick : Tick) → AllOwe (telling now p tick)
 unfolding AllOwe
@@ -46,28 +42,22 @@ telling_owes now p tick =
           (λ _. told_owe (output_events tick.printed (logged p.machine.lists)) acts h) (λ _. h),
     )
 
-beats_owe : (seen : Seen) → ByBeat seen (λ _ _ b. AllOwe b.acts)
-unfolding AllOwe
-beats_owe seen = record {
-  rests = λ _ _. tt;
-  owed = λ p tick _. telling_owes seen.now p tick;
-  checks = λ p g. (λ _. g.runs, tt);
-  halts_marked = λ p mark g. halts_owe seen.now p (why_marked mark) [] g.owes;
-  makes = λ p g. (λ _. g.runs, tt);
-  halts_moving = λ p why g. halts_owe seen.now p why [] g.owes;
-  ends_moving = λ p code g. exits_owe seen.now p code g.owes;
-}
-
 pub beat_owes : (program : Option Program) (seen : Seen) (more : Bool) → AllOwe (beat_of program seen more).acts
-beat_owes program seen more = by_beat seen (λ _ _ b. AllOwe b.acts) (beats_owe seen) program more
+unfolding AllOwe
+beat_owes None seen more = tt
+beat_owes (Some p) seen more = by_running seen p more (λ b. AllOwe b.acts) tt (λ runs. record {
+  tells = λ tick _. telling_owes seen.now p tick;
+  ends_for = λ _ _ _. tt;
+  stops_for = λ reason owes _. halts_owe seen.now p reason [] owes;
+  exits_with = λ code owes _ _. exits_owe seen.now p code owes;
+  enters = λ owes _ _. (λ _. runs owes, tt);
+  moves = λ owes _ _ _ _. (λ _. runs owes, tt);
+})
 
 -- ---- what is done to it from outside
 
 pub marked_owes : (mark : Mark) (p : Program) → OwesRunning p → OwesRunning (marked mark p)
-marked_owes mark p h = by p.run where
-  by : (r : Run) → OwesRunning (marked_by r mark p)
-  by a_run.Running = h
-  by _ = h
+marked_owes mark p h = elim p.run as (λ r. OwesRunning (marked_by r mark p)) [ a_run.Running ↦ h | _ ↦ h ]
 
 pub owes_after : (f : Program → Program) → ((p : Program) → OwesRunning p → OwesRunning (f p)) → (program : Option Program) → OwesOf program
     → OwesOf (on_program f program)
@@ -90,4 +80,4 @@ pub one_plain : (e : Told) → Plain e → All Plain (e ∷ [])
 one_plain e plain = All-cons Plain e [] plain none_plain
 
 pub exits_plain : (code : ℤ) → All Plain (exit_events code)
-exits_plain code = All-cons Plain (event.Exited (record { exit_code = code })) (event.Terminated ∷ []) refl (one_plain event.Terminated refl)
+exits_plain code = All-cons Plain (Exited (record { exit_code = code })) (Terminated ∷ []) refl (one_plain Terminated refl)

@@ -1,22 +1,13 @@
 -- The first bytes of messages that can be read: they have no fault, and the messages in them are those that lie wholly in them.
-use Rattle.session_laws.proofs.Headline.Common.{[], All, All-cons, All-head, All-nil, All-tail, All-weaker, ap, append-nil, append_assoc, arith, drop, flat_map, frame_said, if_keeps, leb, leb-false, leb-true, length, length-append, length-drop, List, map, Message, None, Ok, Option, refl, Said, Some, subst, sym, take, take-append-drop, take-append-le, take_all, told_within, ℕ, ◌++◌, ◌+◌, ◌-◌, ◌<◌, ◌^◌, ◌∙◌, ◌∷◌, ◌≡◌, ◌≤◌}
-use Rattle.std.proofs.Math.Seq.{take-append-add}
+use Rattle.session_laws.proofs.Headline.Common.{[], All, All-cons, All-head, All-nil, All-tail, All-weaker, ap, append-nil, append_assoc, AreFrames, arith, drop, flat_map, frame_first, frame_said, HasTexts, if_keeps, leb, leb-false, leb-true, length, length-append, length-drop, List, map, Message, MessageError, minimal_frame, None, Ok, Option, Partial, reading_is_right, refl, Said, subst, sym, TailIs, take, take-append-add, take-append-drop, take-append-le, take_all, told_within, ℕ, ◌++◌, ◌+◌, ◌-◌, ◌<◌, ◌^◌, ◌∙◌, ◌∷◌, ◌≡◌, ◌≤◌}
 use Rattle.queues.specs.Writing.{frame_of}
 use Rattle.replies.specs.Messages.{text_of, IsNumber, IsProper}
-use Rattle.framing.specs.Frames.{AreFrames, minimal_frame}
 use Rattle.framing.specs.Reading.{Reading, reading_of, with_body}
-use Rattle.framing.specs.Reading.Tail.{Partial}
-use Rattle.framing.specs.Streams.{TailIs}
-use Rattle.framing.proofs.Framing.{frame_first, reading_is_right}
 use Rattle.framing.proofs.Minimal.{minimal_is_read}
 use Rattle.mirror.proofs.Lawful.{faults_stay}
 use Rattle.mirror.specs.Streams.{error_in, error_of, fault_in, first_fault, message_of, messages_in, messages_of, messages_so_far, stream_fault, without_number}
-use Rattle.mirror.specs.declared.error.MirrorError.{MirrorError}
-use Rattle.protocol.specs.declared.request.MessageError.{MessageError}
 use Rattle.replies.proofs.Finding.{reading_of-message_data}
 use Rattle.replies.proofs.Values.{json_of-text_of}
-use Rattle.replies.specs.Laws.{HasTexts}
-use Rattle.session_laws.proofs.Headline.Agreeing.{never}
 
 -- ---- the bodies in the first bytes of frames
 
@@ -114,9 +105,7 @@ abbrev pub IsReadable : Said → Type 0
 IsReadable m = Good m × IsShort m
 
 pub framed_some : (m : Said) → 0 < length (frame_said m)
-framed_some m = subst (λ (f : List ℕ). 0 < length f) (sym (is_frame m)) (some (text_said m)) where
-  some : (body : List ℕ) → 0 < length (minimal_frame body)
-  some body = omega arith
+framed_some m = rw (is_frame m) (omega arith)
 
 read_as : (m : Said) → IsReadable m → message_of (text_said m) ≡ Ok m.message
 unfolding text_said
@@ -168,12 +157,9 @@ whole_has_no_fault said h =
 
 pub has_no_fault : (said : List Said) (count : ℕ) → All IsReadable said → stream_fault (take count (flat_map frame_said said)) ≡ None
 has_no_fault said count h =
-    by (stream_fault (take count (flat_map frame_said said))) refl where
-      by : (e : Option MirrorError) → stream_fault (take count (flat_map frame_said said)) ≡ e → e ≡ None
-      by None e = refl
-      by (Some error) e =
-          let stays = (faults_stay (take count (flat_map frame_said said)) (drop count (flat_map frame_said said)) error e).0 in
-          never error (sym (whole_has_no_fault said h) ∙ sym (ap stream_fault (take-append-drop count (flat_map frame_said said))) ∙ stays)
+    let all = flat_map frame_said said in
+    let whole = ap stream_fault (take-append-drop count all) ∙ whole_has_no_fault said h in
+    grind (arith, whole, faults_stay (take count all) (drop count all))
 
 -- what holds of all holds of those that were told
 pub told_hold : (P : Said → Type 0) (said : List Said) (count : ℕ) → All P said → All P (told_within count said)

@@ -1,16 +1,12 @@
 -- A success of a request that names a reference was queued by a turn, and the reference was good when the turn came.
-use Rattle.session.specs.declared.event.Event.{Event}
-use Rattle.replies.specs.declared.response.Outcome.{Outcome}
-use Rattle.session_laws.proofs.Headline.Common.{[], accepting, Act, All, All-head, answer_to, Answering, answering, ap, append-nil, append_assoc, arith, Ask, asks_of, beat, beat_keeps, beats, Become, Beginning, Both, closing, Cut, Done, Effect, enough, Fate, first_asked, get_or, get_or_push, HangUp, Happened, histories, if_keeps, inl, inr, is_some, IsEvent, IsKnownBy, IsKnownIn, leaves, led_append, length, Life, life_of, Link, List, ltb, map, Message, no_life, None, Now, number_of, on, on_with, Option, Pending, performed, performed_on, Reached, read_on, refl, Refused, Request as ARequest, Response as IsResponse, response_to, ResponseBody, Said, said_next, saying, Session, Slice, Snapshot, snapshot_of, Some, start, subst, suc, sym, Take, Tell, telling, Terms, Turn, Whole, with_change, zero, ℕ, ℤ, ⊤, ◌++◌, ◌∙◌, ◌∷◌, ◌≡◌, ◌⊎◌}
-use Rattle.session.specs.Prefixes.{IsPrefixOf}
+use Rattle.session_laws.proofs.Headline.Common.{[], accepting, accepts_by, Act, after_answer, All, All-head, AnEvent as Event, answer_to, answering, Answering, ap, append-nil, append_assoc, arith, Ask, asks_of, beat, beat_keeps, beats, Become, Beginning, Both, closing, Cut, Done, Effect, enough, Fate, first_asked, get_or, get_or_push, HangUp, Happened, histories, if_keeps, inl, inr, is_some, IsKnownIn, IsPrefixOf, leaves, led_append, length, Life, life_of, Link, List, ltb, map, Message, no_life, None, Now, number_of, on, on_with, opens_by, Option, outcome_at, outcome_next, Pending, performed, performed_on, Reached, read_on, reference_in, refl, Refused, Replied as Outcome, Request as ARequest, Response as IsResponse, response_to, ResponseBody, Said, said_next, saying, Session, Slice, Snapshot, snapshot_of, Some, start, subst, suc, sym, Take, Tell, telling, Terms, Turn, Whole, with_change, zero, ℕ, ℤ, ⊤, ◌++◌, ◌∙◌, ◌∷◌, ◌≡◌, ◌⊎◌}
 use Rattle.queues.specs.declared.pending.Ask.TheVariants.{Request}
 use Rattle.session_laws.proofs.Lasting.{references_last}
 use Rattle.session_laws.proofs.Turning.{both_reached}
 use Rattle.session_laws.proofs.Waiting.{all_counted}
-use Rattle.session_laws.specs.Lifetimes.{outcome_next, reference_in}
 use Rattle.session_laws.specs.References.{ReferencesWereGood, WasGood, named_by, reference_of}
 use Rattle.session_laws.proofs.Headline.Agreeing.{never}
-use Rattle.session_laws.proofs.Headline.ByEvent.{after_answer, by_beats, by_event, ByEvent, ByTurn}
+use Rattle.session_laws.proofs.Cases.{by_beats, by_event, each_turn, EachTurn}
 use Rattle.session_laws.proofs.Headline.Knowing.{first_more, KeptOn, Knows, knows, knows_at_first, of_waiting, WaitsFirst}
 use Rattle.session_laws.proofs.Headline.Owing.{all_tell_owe, AllOwe, beat_owes, telling_owes}
 use Rattle.session_laws.proofs.Headline.Editing.{later_hold}
@@ -24,12 +20,7 @@ NamesNothing m seen = (heard : List Ask) → reference_of heard m ≡ None
 
 -- the number that it names is the same, whatever is asked later
 named_still : (heard more : List Ask) (m : Message) → IsKnownIn heard m → reference_of (heard ++ more) m ≡ reference_of heard m
-named_still heard more (IsResponse r) k = by r.outcome k where
-  by : (o : Outcome) → IsKnownBy heard r.request_seq r.command o
-      → named_by o (first_asked (heard ++ more) r.request_seq) ≡ named_by o (first_asked heard r.request_seq)
-  by (Done body) k = ap (named_by (Done body)) (first_more heard more r.request_seq k.request k.first ∙ sym k.first)
-  by (Refused refusal text) k = refl
-named_still heard more (IsEvent e) k = refl
+named_still heard more m k = grind (arith, first_more)
 
 -- what is answered with success is the first request of its number
 answered_first : (asks : List Ask) (now : Now) (terms : Terms) (file : Option (List ℕ)) (p : Pending) → WaitsFirst asks p
@@ -75,8 +66,7 @@ at_last P (z ∷ xs) x y zero f h = h
 at_last P (z ∷ xs) x y (suc c) f h = at_last P xs x y c (λ e. f (let next : suc c ≡ length (z ∷ xs) = omega (arith, e) in next)) h
 
 none_more : (xs : List Life) (c : ℕ) → get_or (xs ++ no_life ∷ []) c no_life ≡ get_or xs c no_life
-none_more [] zero = refl
-none_more [] (suc c) = refl
+none_more [] c = grind arith
 none_more (x ∷ xs) zero = refl
 none_more (x ∷ xs) (suc c) = none_more xs c
 
@@ -113,16 +103,12 @@ module _ (G : ℕ → List Said → Said → ℤ → Type 0) where
       → G (length s.before) (s.life.said ++ mid) m number)
       → LivesSo s → LivesSo t
   lives_grow s t news before life new h c =
-      subst (λ (b : List Life). LifeSo c (get_or (b ++ t.life ∷ []) c no_life)) (sym before)
-      (subst (λ (x : Life). LifeSo c (get_or (s.before ++ x ∷ []) c no_life)) (sym life)
-      (at_last (LifeSo c) s.before s.life (record s.life { said = s.life.said ++ news }) c
-      (λ is k earlier later m number e named. by is k earlier later m number named (cut s.life.said news earlier later m e)) (h c))) where
+      rw (before, life) (at_last (LifeSo c) s.before s.life (record s.life { said = s.life.said ++ news }) c
+      (λ is k earlier later m number e named. by is k earlier later m number named (cut s.life.said news earlier later m e)) (h c)) where
         by : c ≡ length s.before → LifeSo c s.life → (earlier later : List Said) (m : Said) (number : ℤ)
             → reference_of s.life.heard m.message ≡ Some number → Cuts s.life.said news earlier later m → G c earlier m number
         by is k earlier later m number named (inl r) = k earlier r.0 m number r.1 named
-        by is k earlier later m number named (inr r) =
-            subst (λ (n : ℕ). G n earlier m number) (sym is)
-            (subst (λ (l : List Said). G (length s.before) l m number) (sym r.1) (new r.0 later m number r.2 named))
+        by is k earlier later m number named (inr r) = rw (is, r.1) (new r.0 later m number r.2 named)
 
   queued_so : (s t : Session) → Queued NamesNothing s t → LivesSo s → LivesSo t
   queued_so s t q =
@@ -191,31 +177,32 @@ module _ (G : ℕ → List Said → Said → ℤ → Type 0) where
   ReadyFor (Turn file) s t = Ready s file t
   ReadyFor _ s t = ⊤
 
-  abbrev StaySo : Event → Session → Session → Type 0
-  StaySo e s t = ReadyFor e s t → Knows s → LivesSo s → LivesSo t
+  abbrev StaySo : Event → Session → List Act → Type 0
+  StaySo e s acts = let t = performed histories acts s in ReadyFor e s t → Knows s → LivesSo s → LivesSo t
 
-  turns_so : (file : Option (List ℕ)) → ByTurn file (StaySo (Turn file))
+  turns_so : (file : Option (List ℕ)) → EachTurn file (StaySo (Turn file))
   turns_so file = record {
-    stays = λ s _ _ h. h;
+    nothing = λ s _ _ h. h;
     answers = λ l p rest s _ ready _ h. answering_so l p rest file s ready h;
     tells = λ l p tick s _ _ _ _ h. let t = on (Some l) s in quiet_so (telling t.now p tick) t (telling_owes t.now p tick) h;
   }
 
-  events_so : ByEvent StaySo
-  events_so = record {
-    stays = λ e s _ _ h. h;
-    opens = λ s _ _ h c. subst (LifeSo c) (sym (none_more (s.before ++ s.life ∷ []) c)) (h c);
-    accepts = λ l piece s _ knows h c.
+  outcome_so : (e : Event) (s : Session) → StaySo e s (outcome_at (histories.see s) s.now.link e).acts
+  outcome_so e s = by_event (histories.see s) s.now.link (λ e o. StaySo e s o.acts) (record {
+    refuses = λ _ _ _ _ h. h;
+    opens = λ _ _. opens_by LivesSo s.now.link s (λ h c. subst (LifeSo c) (sym (none_more (s.before ++ s.life ∷ []) c)) (h c));
+    accepts = λ piece _ knows. accepts_by LivesSo s.now.link piece s (λ l _ h c.
         let asks = asks_of (read_on s.now piece).bodies in
         at_last (LifeSo c) s.before s.life (accepting l piece (on (Some l) s)).life c
         (λ _ k earlier later m number is named. k earlier later m number is
         (sym (named_still s.life.heard asks m.message
-        (at_place (λ (m : Said). IsKnownIn s.life.heard m.message) s.life.said earlier later m is knows.present)) ∙ named)) (h c);
-    turns = turns_so;
-    holds = λ s _ _ h. h;
-    takes = λ n s _ _ h c. at_last (LifeSo c) s.before s.life (performed_on (Take n) s).life c (λ _ k. k) (h c);
-    drops = λ s _ _ h. h;
-  }
+        (at_place (λ (m : Said). IsKnownIn s.life.heard m.message) s.life.said earlier later m is knows.present)) ∙ named)) (h c));
+    turns = λ file. each_turn file (StaySo (Turn file)) (turns_so file) s.now.link s;
+    slices = λ _ _ _ h. h;
+    holds = λ _ _ h. h;
+    takes = λ n _ _ h c. at_last (LifeSo c) s.before s.life (performed_on (Take n) s).life c (λ _ k. k) (h c);
+    drops = λ _ _ _ _ h. h;
+  }) e
 
   beats_so : (n i : ℕ) (s : Session) → Both Knows knows s → LivesSo s → LivesSo (beats histories n i s).state
   beats_so n i s k h =
@@ -226,7 +213,7 @@ module _ (G : ℕ → List Said → Said → ℤ → Type 0) where
 
   event_keeps : (e : Event) (s : Session) → ReadyFor e s (Effect s e) → Both Knows knows s → LivesSo s → LivesSo (Effect s e)
   event_keeps (Slice n) s ready k h = beats_so n (enough n) s k h
-  event_keeps e s ready k h = by_event StaySo events_so e s.now.link s ready k.0 h
+  event_keeps e s ready k h = outcome_so e s ready k.0 h
 
   abbrev ReadyBy : Session → Happened → Type 0
   ReadyBy s (Whole e) = ReadyFor e s (Effect s e)
@@ -255,8 +242,7 @@ module _ (from : Beginning) (all : List Happened) where
       let t = Effect s (Turn file) in
       let there : life_of (length s.before) t ≡ t.life =
       ap (λ (b : List Life). get_or (t.before ++ t.life ∷ []) (length b) no_life) (sym q.0) ∙ get_or_push t.before t.life no_life (length t.before) refl in
-      subst (λ (u : Session). IsPrefixOf (s.life.said ++ m ∷ []) (life_of (length s.before) u).said)
-      (sym (led_append events (Whole (Turn file) ∷ []) (start from)))
+      rw (led_append events (Whole (Turn file) ∷ []) (start from))
       (subst (λ (life : Life). IsPrefixOf (s.life.said ++ m ∷ []) life.said) (sym there) q.1)
 
   knows_then : (events : List Happened) → Both Knows knows (Reached from events)

@@ -1,7 +1,5 @@
 -- What was so at each message was so at the last one of any prefix; and what is known stays, whatever is asked later.
-use Rattle.session_laws.proofs.Headline.Common.{[], All, All-cons, All-head, All-nil, All-tail, answered, ap, Ask, Asked, asked_of, Done, Facts, false, first_asked, folded, frame_said, Holds, if_keeps, IsEvent, IsKnownBy, IsKnownIn, known_after, last_seen, length, List, Message, nat_le, None, Option, option_map, PrintsRunning, refl, Refused, remembered, Request as ARequest, Response as IsResponse, Said, shown, Snapshot, Some, subst, sym, told_within, true, WasSo, ℕ, ⊤, ◌++◌, ◌-◌, ◌∙◌, ◌∷◌, ◌≡◌}
-use Rattle.replies.specs.declared.response.Outcome.{Outcome}
-use Rattle.session.specs.Kinds.{is_success}
+use Rattle.session_laws.proofs.Headline.Common.{[], All, All-cons, All-head, All-nil, All-tail, answered, ap, arith, Ask, Asked, asked_of, Facts, first_asked, folded, frame_said, Holds, if_keeps, is_success, IsKnownIn, known_after, last_seen, length, List, Message, nat_le, Option, option_map, PrintsRunning, refl, Refused, remembered, Replied as Outcome, Request as ARequest, Said, shown, Snapshot, Some, told_within, true, WasSo, ℕ, ⊤, ◌++◌, ◌-◌, ◌∙◌, ◌∷◌, ◌≡◌}
 use Rattle.session_laws.proofs.Headline.Knowing.{first_more}
 
 -- ---- messages one after the other
@@ -51,26 +49,16 @@ remembers asks number r e = ap (λ (x : Option ARequest). option_map (λ (q : AR
 
 -- a refusal tells nothing
 pub refused_tells : (asked : Option Asked) (refusal : _) (text : _) (f : Facts) → answered asked (Refused refusal text) f ≡ f
-refused_tells None refusal text f = refl
-refused_tells (Some a) refusal text f = refl
+refused_tells _ refusal text f = grind arith
 
 -- only what a success answers matters
 pub answers_same : (a b : Option Asked) (outcome : Outcome) (f : Facts) → (is_success outcome ≡ true → a ≡ b)
     → answered a outcome f ≡ answered b outcome f
-answers_same a b (Done body) f same = ap (λ (x : Option Asked). answered x (Done body) f) (same refl)
-answers_same a b (Refused refusal text) f same = refused_tells a refusal text f ∙ sym (refused_tells b refusal text f)
+answers_same a b outcome f same = grind (arith, refused_tells)
 
 folded_same : (asks more : List Ask) (f : Facts) (m : Message) → IsKnownIn asks m
     → folded (remembered (asks ++ more)) f m ≡ folded (remembered asks) f m
-folded_same asks more f (IsResponse r) k =
-    answers_same (remembered (asks ++ more) r.request_seq) (remembered asks r.request_seq) r.outcome f (by r.outcome k) where
-      by : (o : Outcome) → IsKnownBy asks r.request_seq r.command o → is_success o ≡ true
-          → remembered (asks ++ more) r.request_seq ≡ remembered asks r.request_seq
-      by (Done body) k success =
-          remembers (asks ++ more) r.request_seq k.request (first_more asks more r.request_seq k.request k.first)
-          ∙ sym (remembers asks r.request_seq k.request k.first)
-      by (Refused refusal text) k success = absurd (let no : false ≡ true = success in cc)
-folded_same asks more f (IsEvent e) k = refl
+folded_same asks more f m k = grind (arith, first_more, refused_tells)
 
 abbrev AllKnownBy : List Ask → List Said → Type 0
 AllKnownBy asks said = All (λ (m : Said). IsKnownIn asks m.message) said
@@ -87,9 +75,6 @@ pub all_hold_same : (asks more : List Ask) (f : Facts) (said : List Said) → Al
     → AllHold (remembered (asks ++ more)) f said
 all_hold_same asks more f [] k h = tt
 all_hold_same asks more f (m ∷ said) k h =
-    subst (λ (g : Facts). HoldsAfter g m.message m.snapshot × AllHold (remembered (asks ++ more)) g said)
-    (sym (folded_same asks more f m.message (All-head (λ (m : Said). IsKnownIn asks m.message) m said k))) (
-      h.0,
-      all_hold_same asks more (folded (remembered asks) f m.message) said
-          (All-tail (λ (m : Said). IsKnownIn asks m.message) m said k) h.1,
-    )
+    let rest = All-tail (λ (m : Said). IsKnownIn asks m.message) m said k in
+    rw (folded_same asks more f m.message (All-head (λ (m : Said). IsKnownIn asks m.message) m said k))
+    (h.0, all_hold_same asks more (folded (remembered asks) f m.message) said rest h.1)

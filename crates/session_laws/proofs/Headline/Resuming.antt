@@ -1,11 +1,9 @@
 -- Requests that begin or end what is debugged, let the program continue, or join it: what their successes tell is so.
-use Rattle.session_laws.proofs.Headline.Common.{[], Active, Answering, ap, begins, Bool, BreakInfo, cond, Configuring, ended, Facts, false, first_run, fresh, given_of, happened, has_ended, has_none, HasEnded, Holds, HoldsRun, in_state, Initialized, is_active_in, is_configuring_in, is_debugging_in, is_ended, is_fresh_in, is_initialized_in, joins, List, listed_at, Meets, None, nothing_known, Now, Numbers, on_program, Option, or_left, or_right, Phase, Program, refl, reset, restarted, resumed, Run, run_events, run_of, Running, runs, RunState, shown_by, shown_of, Some, state_of, stop_event, subst, sym, Terms, true, Unknown, ◌||◌, ◌∙◌, ◌∷◌, ◌≡◌}
+use Rattle.session_laws.proofs.Headline.Common.{[], Active, Answering, ap, arith, begins, Bool, BreakInfo, cond, Configuring, Continued, ended, Event as Told, Facts, false, first_run, fresh, given_of, happened, has_ended, has_none, Holds, HoldsRun, in_state, Initialized, is_active_in, is_configuring_in, is_debugging_in, is_ended, is_fresh_in, is_initialized_in, joins, List, listed_at, Meets, None, nothing_known, Now, Numbers, on_program, Option, or_left, or_right, Phase, Program, refl, reset, restarted, resumed, Run, run_events, run_of, Running, runs, RunState, shown_by, shown_of, Some, state_of, stop_event, subst, sym, Terminated, Terms, true, Unknown, ◌||◌, ◌∙◌, ◌∷◌, ◌≡◌}
 use Rattle.debuggee.specs.declared.run.Run.TheVariants as a_run
 use Rattle.mirror.specs.Folding.{ended as ended_as}
 use Rattle.mirror.specs.declared.asked.Asked.TheVariants as asks
 use Rattle.facts.specs.declared.run.RunState.TheVariants.{Stopped, Ended}
-use Rattle.replies.specs.declared.event.Event.{Event as Told}
-use Rattle.replies.specs.declared.event.Event.TheVariants as event
 use Rattle.handlers.specs.Terminate.{demand}
 use Rattle.handlers.specs.Terminate as terminate
 use Rattle.session_laws.proofs.Headline.Agreeing.{Agrees, ended_agrees, in_agrees, no_stand_in, nothing_agrees, SameBreaks, suits_as, suits_on, SuitsPhase, WhileConfiguring}
@@ -47,20 +45,13 @@ resumed_same goal p = λ _ _. record { source = λ _. refl; instructions = refl;
 
 knows_nothing : (phase : Phase) (launched : Bool) (f : Facts) → (is_fresh_in phase || is_initialized_in phase) ≡ true
     → SuitsPhase phase launched f → f ≡ nothing_known
-knows_nothing Configuring launched f e h = absurd (let no : false ≡ true = e in cc)
-knows_nothing Active launched f e h = absurd (let no : false ≡ true = e in cc)
-knows_nothing _ launched f e h = h
+knows_nothing phase launched f e h = grind arith
 
 pub initialize_agrees : (f : Facts) (program : Option Program) (numbers : Numbers) (terms then : Terms) → is_fresh_in terms.phase ≡ true
     → then.phase ≡ Initialized → Agrees f program numbers terms → Agrees f program numbers then
-initialize_agrees f program numbers terms then fresh is h = record {
-  holds = h.holds;
-  moving = h.moving;
-  numbered = h.numbered;
-  phase =
-      subst (λ (phase : Phase). SuitsPhase phase then.launched f) (sym is)
-      (knows_nothing terms.phase terms.launched f (or_left (is_fresh_in terms.phase) _ fresh) h.phase);
-}
+initialize_agrees f program numbers terms then fresh is h =
+    assumption (subst (λ (phase : Phase). SuitsPhase phase then.launched f) (sym is)
+    (knows_nothing terms.phase terms.launched f (or_left (is_fresh_in terms.phase) _ fresh) h.phase))
 
 -- nothing is known but whether it was launched, of whatever program there is then
 module _ (f : Facts) (old program : Option Program) (numbers : Numbers) (terms : Terms) (taken : is_initialized_in terms.phase ≡ true)
@@ -75,28 +66,20 @@ module _ (f : Facts) (old program : Option Program) (numbers : Numbers) (terms :
   nothing_was = sym (knows_nothing terms.phase terms.launched f (or_right (is_fresh_in terms.phase) _ taken) h.phase)
 
   pub attach_agrees : Agrees f program numbers (record terms { phase = Configuring; launched = false })
-  attach_agrees =
-      subst (λ (g : Facts). Agrees g program numbers (record terms { phase = Configuring; launched = false })) nothing_was (only_agrees false)
+  attach_agrees = rw (← nothing_was) (only_agrees false)
 
   pub launch_agrees : Agrees (record f { launched = true }) program numbers (record terms { phase = Configuring; launched = true })
-  launch_agrees =
-      subst (λ (g : Facts). Agrees (record g { launched = true }) program numbers (record terms { phase = Configuring; launched = true }))
-      nothing_was (only_agrees true)
+  launch_agrees = rw (← nothing_was) (only_agrees true)
 
 -- an answer after which an event is told
 pub with_event : (f g : Facts) (e : _) (program : Option Program) (numbers : Numbers) (terms : Terms) → happened e f ≡ g → Prints e program
     → Holds f (shown_by program numbers) → Agrees g program numbers terms → SoThenLeads terms numbers program (e ∷ []) f
 unfolding Leads
-with_event f g e program numbers terms is prints holds h = (
-  holds,
-  subst (λ (x : Facts). (Holds x (shown_by program numbers) × Prints e program) × Agrees x program numbers terms) (sym is)
-      ((h.holds, prints), h),
-)
+with_event f g e program numbers terms is prints holds h = (holds, rw is ((h.holds, prints), h))
 
 while_configuring : (phase : Phase) (launched : Bool) (f : Facts) → is_configuring_in phase ≡ true → SuitsPhase phase launched f
     → WhileConfiguring launched f
-while_configuring Configuring launched f e h = h
-while_configuring _ launched f e h = absurd (let no : false ≡ true = e in cc)
+while_configuring phase launched f e h = grind arith
 
 -- the answer to `configurationDone`, by whether the program was launched
 abbrev pub finishes : Now → Terms → Bool → Answering
@@ -121,7 +104,7 @@ module _ (now : Now) (terms : Terms) (f : Facts) (w : WhileConfiguring terms.lau
         (now_in run p p h is (record { source = λ _. refl; instructions = refl; functions = refl }))
 
     by : (r : Run) → p.run ≡ r → SoThenLeads active now.numbers (Some p) (run_events (Some r)) f
-    by a_run.Running e = told Running event.Continued (ap state_of e) refl tt
+    by a_run.Running e = told Running Continued (ap state_of e) refl tt
     by (a_run.Stopped why) e = told Stopped (stop_event why []) (ap state_of e) refl tt
     by (a_run.Ended code) e =
         alone f (Some p) now.numbers active (record { holds = h.holds; moving = λ _. w.stand; numbered = h.numbered; phase = w.launched })
@@ -150,25 +133,18 @@ done_leads now terms f launched e taken there h = by launched (w.launched ∙ e)
 
 -- ---- `terminate`
 
-ended_state : (run : Run) → HasEnded (state_of run) → is_ended run ≡ true
-ended_state (a_run.Ended code) h = refl
-ended_state _ h = absurd h
-
 ends_now : (known : RunState) (run : Run) → HoldsRun known (state_of run) → is_ended run ≡ false → ended_as known ≡ Ended None
-ends_now (Ended None) run h e = no_program (sym (ended_state run h) ∙ e)
-ends_now (Ended (Some code)) run h e = no_program (sym (ended_state run (subst HasEnded (sym h) tt)) ∙ e)
-ends_now _ run h e = refl
+ends_now known run h e = grind arith
 
 pub terminate_leads : (now : Now) (terms : Terms) (f : Facts) → is_debugging_in terms.phase ≡ true
     → Meets (run_of now.debuggee.program) demand → Agrees f now.debuggee.program now.numbers terms
     → AnswerLeads now f (Some asks.Terminate) (terminate.success (given_of now) terms)
 terminate_leads now terms f taken meets =
     loaded (λ program. has_ended (run_of program) ≡ false → Agrees f program now.numbers terms
-    → SoThenLeads terms now.numbers (on_program (ended None) program) (event.Terminated ∷ []) (record f { run = ended_as f.run }))
+    → SoThenLeads terms now.numbers (on_program (ended None) program) (Terminated ∷ []) (record f { run = ended_as f.run }))
     now.debuggee.program meets.loaded (λ p alive h.
     let g : Facts = record f { run = Ended None } in
     let a = ended_agrees None f p now.numbers terms tt (suits_on terms.phase terms.launched f g taken refl (λ _. tt)
     (λ n. record { frame = n.frame; register = n.register; byte = n.byte }) h.phase) h in
-    subst (λ (run : RunState). SoThenLeads terms now.numbers (Some (ended None p)) (event.Terminated ∷ []) (record f { run = run }))
-    (sym (ends_now f.run p.run h.holds.run alive))
-    (with_event g g event.Terminated (Some (ended None p)) now.numbers terms refl tt a.holds a)) meets.alive
+    rw (ends_now f.run p.run h.holds.run alive)
+    (with_event g g Terminated (Some (ended None p)) now.numbers terms refl tt a.holds a)) meets.alive

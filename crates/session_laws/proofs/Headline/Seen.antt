@@ -1,6 +1,5 @@
 -- What can be seen at the end of an event is what could be seen at each message that it queued.
-use Rattle.session_laws.proofs.Headline.Common.{ap, arith, at_end, beat, beats, Beginning, Bool, Effect, ended_as, enough, Happened, histories, histories_follow, IsAtRest, IsFollowed, IsSeenAfter, le-ltb, List, next_by, None, Option, Reached, refl, seen_now, Session, Slice, sliced, SliceEnd, Slicing, Some, Spends, subst, suc, sym, with_beat, zero, ℕ, ◌∙◌, ◌≡◌, ◌≤◌}
-use Rattle.session.proofs.Enough.{each_ends}
+use Rattle.session_laws.proofs.Headline.Common.{ap, arith, at_end, beat, beats, Beginning, Bool, each_ends, Effect, ended_as, enough, Happened, histories, histories_follow, IsAtRest, IsFollowed, IsSeenAfter, le-ltb, List, next_by, None, Option, Reached, refl, seen_now, Session, Slice, sliced, SliceEnd, Slicing, Some, Spends, subst, suc, sym, with_beat, zero, ℕ, ◌∙◌, ◌≡◌, ◌≤◌}
 use Rattle.session_laws.proofs.Headline.Truth.{beats_so, Told, told_at}
 use Rattle.session_laws.proofs.Headline.Newly.{followed, nothing_queued, Printed, printed_fits, PrintsTo}
 use Rattle.session_laws.proofs.Headline.Following.{first_begins, still_follows, turn_told}
@@ -32,7 +31,7 @@ none_under s so (suc k) = next_under 0 s so k (beats histories 0 k s).ending ref
 
 one_under : (s : Session) (so : Told s) → IsAtRest s → (k : ℕ) → Under 1 s so (beats histories 1 (suc k) s)
 one_under s so rest zero =
-    let first = first_begins s rest in
+    let first = first_begins s so.1.was.owes rest in
     record {
       told = first.follows.told;
       printed = first.follows.printed;

@@ -1,18 +1,9 @@
 -- Requests that look in: what their successes tell is so, and numbers that are issued leave what is known. `stackTrace`: the frames
 -- that its success tells are those of the call stack, by the numbers that they have.
-use Rattle.session_laws.proofs.Headline.Common.{[], addresses, ap, arith, Asked, Bool, Command, cond, drop, eq-eqb, eqb, Facts, false, Frame, frame_at, frame_in, frame_of, FrameInfo, frames_given, given_of, has, HoldsAt, if_keeps, indices, is_some, IsTrue, length, List, map, None, not, Now, number_from, number_in, Numbers, Option, option_map, or_left, or_right, or_zero, over, Program, range_with_len, refl, ResponseBody, shown_of, slice_get, slice_get-get_or, slice_get-map, slice_index, Some, start, subst, suc, succeeded, sym, Target, Terms, true, unwrap_or, with_all, with_one, with_targets, zero, ℕ, ◌++◌, ◌+◌, ◌<◌, ◌||◌, ◌∙◌, ◌∷◌, ◌≡◌}
-use Rattle.answers.specs.Looking.{looks_in}
+use Rattle.session_laws.proofs.Headline.Common.{[], addresses, ap, arith, Asked, Bool, Command, drop, eq-eqb, eqb, Facts, false, Frame, frame_at, frame_in, frame_of, FrameInfo, frames_given, given_of, has, HoldsAt, if_keeps, indices, is_same, is_some, issues, IsTrue, length, List, list_any-append, looks_in, map, None, not, Now, number_for, number_from, number_in, Numbers, Option, option_map, or_left, or_right, over, part, Program, range_with_len, refl, ResponseBody, seen_in, shown_of, slice_get, slice_get-get_or, slice_get-map, slice_index, Some, start, subst, suc, succeeded, sym, Target, Terms, true, View, with_all, with_one, with_targets, zero, ℕ, ◌++◌, ◌+◌, ◌<◌, ◌||◌, ◌∙◌, ◌∷◌, ◌≡◌}
 use Rattle.mirror.specs.declared.asked.Asked.TheVariants as asks
-use Rattle.replies.specs.declared.response.ResponseBody.TheVariants as body
-use Rattle.handlers.specs.Looking.{issues, seen_in}
-use Rattle.variables.specs.References.{is_same}
-use Rattle.std.proofs.lemmas.List.Folds.{list_any-append}
-use Rattle.answers.specs.Parts.{part}
 use Rattle.answers.specs.StackTrace.{frame_at as frame_told}
-use Rattle.answers.specs.Targets.{number_for}
-use Rattle.answers.specs.declared.view.View.{View}
 use Rattle.protocol.specs.declared.stack_trace.StackTraceArguments.{StackTraceArguments}
-use Rattle.variables.specs.declared.target.Target.TheVariants as target
 use Rattle.session_laws.proofs.Headline.Agreeing.{Agrees, FramesNumbered, never, stand_agrees, Stands}
 use Rattle.session_laws.proofs.Headline.Leading.{alone, AnswerLeads}
 use Rattle.session_laws.proofs.Headline.Valuing.{get_take, over_all}
@@ -22,12 +13,7 @@ use Rattle.session_laws.proofs.Headline.Valuing.{get_take, over_all}
 number_more : (first : ℕ) (target : Target) (xs ys : List Target) (n : ℕ) → number_from first target xs ≡ Some n
     → number_from first target (xs ++ ys) ≡ Some n
 number_more first target [] ys n e = never n e
-number_more first target (x ∷ xs) ys n e = by (is_same x target) (number_more (first + 1) target xs ys n) e where
-  by : (b : Bool) → (number_from (first + 1) target xs ≡ Some n → number_from (first + 1) target (xs ++ ys) ≡ Some n)
-      → cond b (Some first) (number_from (first + 1) target xs) ≡ Some n
-      → cond b (Some first) (number_from (first + 1) target (xs ++ ys)) ≡ Some n
-  by true rest e = e
-  by false rest e = rest e
+number_more first target (x ∷ xs) ys n e = grind (arith, number_more (first + 1) target xs ys n)
 
 -- what one target more keeps, all that are issued keep
 pub with_all_keeps : (P : List Target → Type 0) → ((known : List Target) (x : Target) → P known → P (known ++ x ∷ []))
@@ -48,13 +34,7 @@ module _ (numbers : Numbers) (targets : List Target) where
   -- a frame that is known is the same by more numbers
   frames_stay : (p : Program) (f : Facts) → FramesNumbered numbers f → HoldsAt f.frame (shown_of p numbers).frame
       → HoldsAt f.frame (shown_of p (with_targets numbers targets)).frame
-  frames_stay p f h holds index x e = by (slice_get (addresses p.machine) index) (holds index x e) where
-    by : (address : Option ℕ) → frame_at p.image.lines numbers index address ≡ Some x
-        → frame_at p.image.lines (with_targets numbers targets) index address ≡ Some x
-    by None is = is
-    by (Some address) is =
-        ap (λ (id : Option ℕ). Some (record (frame_in p.image.lines numbers index address) { id = or_zero id }))
-        (number_stays (Frame index) x.id (h index x e) ∙ sym (h index x e)) ∙ is
+  frames_stay p f h holds index x e = grind (arith, holds index x e, number_stays (Frame index) x.id (h index x e), h index x e)
 
   pub issued_agrees : (f : Facts) (p : Program) (terms : Terms) → Agrees f (Some p) numbers terms
       → Agrees f (Some p) (with_targets numbers targets) terms
@@ -64,8 +44,7 @@ module _ (numbers : Numbers) (targets : List Target) where
 
 -- a success tells nothing to one who asked nothing that is told
 other_tells : (b : ResponseBody) (f : Facts) → succeeded b asks.Other f ≡ f
-other_tells body.Empty f = refl
-other_tells others f = refl
+other_tells b f = grind arith
 
 -- what a body tells is so by the numbers that then exist
 abbrev pub Tells : Asked → Facts → Program → Numbers → Terms → ResponseBody → List Target → Type 0
@@ -78,21 +57,17 @@ pub shown_leads : (now : Now) (terms : Terms) (command : Command) (asked : Asked
     → AnswerLeads now f (Some asked) (issues (given_of now) terms b (seen_in p (given_of now) terms command).targets)
 shown_leads now terms command asked f p b is so =
     let targets = (seen_in p (given_of now) terms command).targets in
-    alone (succeeded b asked f) now.debuggee.program (with_targets now.numbers targets) terms
-    (subst (λ (program : Option Program). Agrees (succeeded b asked f) program (with_targets now.numbers targets) terms) (sym is) so)
+    alone (succeeded b asked f) now.debuggee.program (with_targets now.numbers targets) terms (rw is so)
 
 abbrev pub is_other : Asked → Bool
 is_other asks.Other = true
 is_other asked = false
 
 other_is : (asked : Asked) → is_other asked ≡ true → asked ≡ asks.Other
-other_is asks.Other e = refl
-other_is asked e = absurd (let no : false ≡ true = e in cc)
+other_is asked e = grind arith
 
 so_of_look : (other looks : Bool) → (other || not looks) ≡ true → looks ≡ true → other ≡ true
-so_of_look true looks e h = refl
-so_of_look false true e h = e
-so_of_look false false e h = h
+so_of_look other looks e h = grind arith
 
 -- a look whose success tells nothing
 pub other_tells_so : (now : Now) (terms : Terms) (command : Command) (asked : Asked) (f : Facts) (p : Program) (b : ResponseBody)
@@ -100,10 +75,8 @@ pub other_tells_so : (now : Now) (terms : Terms) (command : Command) (asked : As
     → Agrees f (Some p) now.numbers terms → Tells asked f p now.numbers terms b (seen_in p (given_of now) terms command).targets
 other_tells_so now terms command asked f p b looks e a =
     let targets = (seen_in p (given_of now) terms command).targets in
-    subst (λ (asked : Asked). Tells asked f p now.numbers terms b targets)
-    (sym (other_is asked (so_of_look (is_other asked) (looks_in command) e looks)))
-    (subst (λ (g : Facts). Agrees g (Some p) (with_targets now.numbers targets) terms) (sym (other_tells b f))
-    (issued_agrees now.numbers targets f p terms a))
+    rw (other_is asked (so_of_look (is_other asked) (looks_in command) e looks), other_tells b f)
+    (issued_agrees now.numbers targets f p terms a)
 
 -- ---- lists
 
@@ -113,7 +86,7 @@ record Comes {A B : Type 0} (f : A → B) (l : List A) (j : ℕ) (y : B) : Type 
   is : f from ≡ y
 
 get_map : {A B : Type 0} (f : A → B) (l : List A) (j : ℕ) (y : B) → slice_get (map f l) j ≡ Some y → Comes f l j y
-get_map f [] j y e = absurd (let no : None ≡ Some y = e in cc)
+get_map f [] j y e = never y e
 get_map f (x ∷ l) zero y e = record { from = x; there = refl; is = let same : f x ≡ y = cc in same }
 get_map f (x ∷ l) (suc j) y e = let c = get_map f l j y e in record { from = c.from; there = c.there; is = c.is }
 
@@ -127,12 +100,11 @@ get_drop {A = A} (x ∷ l) (suc n) j = get_drop {A = A} l n j ∙ (let e : suc (
 
 get_part : (start : ℕ) (count : Option ℕ) (l : List ℕ) (j x : ℕ) → slice_get (part start count l) j ≡ Some x
     → slice_get l (start + j) ≡ Some x
-get_part start count l j x e = sym (get_drop l start j) ∙ by count e where
-  by : (count : Option ℕ) → slice_get (part start count l) j ≡ Some x → slice_get (drop start l) j ≡ Some x
-  by None e = e
-  by (Some count) e =
-      if_keeps (λ (rest : List ℕ). slice_get rest j ≡ Some x → slice_get (drop start l) j ≡ Some x) (eqb count 0) _ _ (λ _ e. e)
-      (λ _ e. (get_take count (drop start l) j x e).0) e
+get_part start None l j x e = sym (get_drop l start j) ∙ e
+get_part start (Some count) l j x e =
+    sym (get_drop l start j)
+    ∙ if_keeps (λ (rest : List ℕ). slice_get rest j ≡ Some x → slice_get (drop start l) j ≡ Some x) (eqb count 0) _ _ (λ _ e. e)
+    (λ _ e. (get_take count (drop start l) j x e).0) e
 
 pub get_range : (from n j x : ℕ) → slice_get (range_with_len from n) j ≡ Some x → (x ≡ from + j) × (j < n)
 get_range from zero j x e = absurd (let no : None ≡ Some x = e in cc)
@@ -145,16 +117,11 @@ get_range from (suc n) (suc j) x e =
 
 same_itself : (t : Target) → is_same t t ≡ true
 same_itself (Frame index) = eq-eqb index index refl
-same_itself target.Registers = refl
-same_itself target.Stack = refl
+same_itself _ = refl
 
 number_is_some : (first : ℕ) (t : Target) (known : List Target) → is_some (number_from first t known) ≡ has t known
 number_is_some first t [] = refl
-number_is_some first t (k ∷ known) = by (is_same k t) (number_is_some (first + 1) t known) where
-  by : (b : Bool) → is_some (number_from (first + 1) t known) ≡ has t known
-      → is_some (cond b (Some first) (number_from (first + 1) t known)) ≡ (b || has t known)
-  by true rest = refl
-  by false rest = rest
+number_is_some first t (k ∷ known) = grind (arith, number_is_some (first + 1) t known)
 
 one_there : (t : Target) (known : List Target) → has t (with_one known t) ≡ true
 one_there t known =
@@ -173,11 +140,7 @@ all_there t known (x ∷ ts) (suc j) e = all_there t (with_one known x) ts j e
 given_number : (numbers : Numbers) (ts : List Target) (t : Target) (j : ℕ) → slice_get ts j ≡ Some t
     → number_in (with_targets numbers ts) t ≡ Some (number_for (with_targets numbers ts) t)
 given_number numbers ts t j e =
-    by (number_in (with_targets numbers ts) t)
-    (number_is_some numbers.first t (with_all numbers.targets ts) ∙ all_there t numbers.targets ts j e) where
-      by : (number : Option ℕ) → is_some number ≡ true → number ≡ Some (unwrap_or number 0)
-      by None e = absurd (let no : false ≡ true = e in cc)
-      by (Some n) e = refl
+    let there = number_is_some numbers.first t (with_all numbers.targets ts) ∙ all_there t numbers.targets ts j e in grind (arith, there)
 
 -- ---- the frames
 

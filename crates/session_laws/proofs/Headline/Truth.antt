@@ -1,13 +1,9 @@
 -- What an editor knows was so, whatever happens: each message was so when it was queued, and what is known fits.
-use Rattle.session_laws.proofs.Headline.Common.{[], Act, All, All-head, All-nil, All-push, answer_to, Answering, answering, arith, Ask, Asked, asks_of, beat, beat_keeps, beats, Become, Beginning, begins_so, Bool, Both, BoundsIn, Debuggee, each_life, Effect, enough, Event as AnEvent, Facts, false, first_terms, folded, given_of, Happened, histories, if_keeps, IsEvent, known_after, left, Life, life_of, Link, List, ltb, ltb-false, ltb-true, map, marked, Message, None, nothing_known, Now, number_of, Numbers, on, on_program, on_with, Option, OrderlyIn, outcome_keeps, Pending, performed, PrintsRunning, Program, reached, Reached, read_on, refl, remembered, replied_on, Response as IsResponse, response_to, said_next, saying, Session, Slice, snapshot_of, Some, subst, success_of, sym, Tell, telling, Terms, WhatIsKnownWasSo, with_change, with_said, ℕ, ⊤, ◌<◌, ◌∙◌, ◌∷◌, ◌≡◌}
-use Rattle.replies.specs.declared.event.Event.TheVariants as event
-use Rattle.session.specs.References.{referred}
-use Rattle.session.specs.declared.event.Event.{Event}
+use Rattle.session_laws.proofs.Headline.Common.{[], accepts_by, Act, after_answer, All, All-head, All-nil, All-push, AnEvent as Event, answer_to, Answering, answering, arith, Ask, asks_of, beat, beat_keeps, beats, Become, Beginning, begins_so, Bool, Both, BoundsIn, Debuggee, each_life, Effect, enough, Event as AnEvent, Facts, false, first_terms, folded, Happened, histories, if_keeps, IsEvent, known_after, left, Life, life_of, Link, List, ltb, ltb-false, ltb-true, map, marked, Message, None, nothing_known, Now, number_of, Numbers, on, on_program, on_with, opens_by, Option, OrderlyIn, outcome_at, outcome_keeps, OwesNothing, Pending, performed, PrintsRunning, Program, Reached, reached, read_on, refl, remembered, replied_on, Response as IsResponse, response_to, said_next, saying, Session, Slice, snapshot_of, Some, subst, sym, Tell, telling, Terms, WhatIsKnownWasSo, with_change, with_said, ℕ, ⊤, ◌<◌, ◌∙◌, ◌∷◌, ◌≡◌}
 use Rattle.debuggee.specs.declared.run.Mark.TheVariants as mark
 use Rattle.session_laws.proofs.Asked.{IsRead}
-use Rattle.session.specs.Config.{first_program}
-use Rattle.session_laws.proofs.Headline.Agreeing.{Agrees, marked_agrees, never, nothing_agrees, nothing_owed, OwesNothing, OwesOf, OwesRunning}
-use Rattle.session_laws.proofs.Headline.ByEvent.{after_answer, by_beats, by_event, ByEvent, ByTurn}
+use Rattle.session_laws.proofs.Headline.Agreeing.{Agrees, marked_agrees, never, nothing_agrees, nothing_owed, OwesOf, OwesRunning}
+use Rattle.session_laws.proofs.Cases.{by_beats, by_event, each_turn, EachTurn}
 use Rattle.session_laws.proofs.Headline.Knowing.{Knows, knows, knows_at_first, of_waiting, WaitsFirst}
 use Rattle.session_laws.proofs.Headline.Remembering.{all_hold_more, all_hold_same, AllHold, HoldsAfter, known_append, known_same, remembers, within_was_so}
 use Rattle.session_laws.proofs.Headline.Owing.{all_tell_owe, AllOwe, beat_owes, marked_owes, owes_after, telling_owes}
@@ -45,11 +41,8 @@ pub record Faithful (s : Session) : Type 0 where
 saying_was : (l : Link) (m : Message) (rest : List Pending) (s : Session)
     → HoldsAfter (folded (remembered s.life.heard) (known s.life) m) m (snapshot_of s.now) → Was (on (Some l) s)
     → Was (saying l m rest (on (Some l) s))
-saying_was l m rest s so h = record {
-  before = h.before;
-  present = all_hold_more (remembered s.life.heard) nothing_known s.life.said (said_next s.now l m) h.present so;
-  owes = h.owes;
-}
+saying_was l m rest s so h =
+    assumption (all_hold_more (remembered s.life.heard) nothing_known s.life.said (said_next s.now l m) h.present so)
 
 knows_more : (s : Session) (l : Link) (m : Message)
     → known (with_said s.life (said_next s.now l m)) ≡ folded (remembered s.life.heard) (known s.life) m
@@ -65,8 +58,7 @@ too_many : {A : Type 0} (n m : ℕ) → ltb n m ≡ false → n < m → A
 too_many n m e less = let most = ltb-false n m e in absurd (omega (arith, most, less))
 
 prints : (e : AnEvent) (d : Debuggee) → Prints e d.program → PrintsRunning (IsEvent e) d
-prints (event.Output output) d h = h
-prints _ d h = tt
+prints e d h = grind arith
 
 ends_so : (l : Option Link) (s : Session) → LeadsIf l s []
     → AgreesOn l s.now.limits.last_seq s.now.debuggee.program s.now.numbers (known s.life)
@@ -91,7 +83,7 @@ quiet_faithful (Tell e ∷ acts) (Some l) s o lead h =
     (λ few.
     let so = lead (ltb-true l.seq s.now.limits.last_seq few) in
     quiet_faithful acts t.now.link t o
-    (λ _. subst (λ (g : Facts). Leads l.terms s.now.numbers g s.now.debuggee.program acts) (sym (knows_more s l (IsEvent e))) so.1)
+    (λ _. rw (knows_more s l (IsEvent e)) so.1)
     (saying_was l (IsEvent e) s.now.arrivals.pending s (so.0.0, prints e s.now.debuggee so.0.1) h))
     (λ many. quiet_faithful acts (Some l) s o (λ less. too_many l.seq s.now.limits.last_seq many less) h)
 quiet_faithful (act ∷ acts) l s o lead h = absurd o
@@ -115,8 +107,7 @@ answering_faithful l p rest s a owes lead h =
     (λ few.
     let so = lead (ltb-true l.seq s.now.limits.last_seq few) in
     quiet_faithful (map Tell a.events) v.now.link v quiet
-    (λ _. subst (λ (g : Facts). Leads a.terms (referred a.references s.now.numbers) g a.debuggee.program (map Tell a.events))
-    (sym (knows_more u k m)) so.1)
+    (λ _. rw (knows_more u k m) so.1)
     (saying_was k m rest u (so.0, tt) was))
     (λ many. quiet_faithful (map Tell a.events) (Some k) u quiet (λ less. too_many l.seq s.now.limits.last_seq many less) was))
 
@@ -129,9 +120,7 @@ answer_so : (now : Now) (terms : Terms) (file : Option (List ℕ)) (p : Pending)
 answer_so now terms file p asks f first read orderly bounds nothing h =
     of_waiting (λ ask a. IsRead ask → AnswerLeads now f (remembered asks (number_of ask)) a) asks now terms file p first
     (λ refusal _. refusal_leads now terms f _ refusal None h)
-    (λ r first taken meets read. subst (λ (x : Option Asked). AnswerLeads now f x (success_of (given_of now) terms file r.command))
-    (sym (remembers asks r.seq r first))
-    (commands_lead now terms file r.command f
+    (λ r first taken meets read. rw (remembers asks r.seq r first) (commands_lead now terms file r.command f
     (record { taken = taken; meets = meets; orderly = orderly; bounds = bounds; bytes = read.1.1; owes = nothing }) h)) read
 
 -- ---- events
@@ -139,12 +128,12 @@ answer_so now terms file p asks f first read orderly bounds nothing h =
 abbrev pub Kept : Session → Type 0
 Kept s = Both Knows knows s
 
-abbrev Stays : Session → Session → Type 0
-Stays s t = Kept s → Faithful s → Faithful t
+abbrev Stays : Session → List Act → Type 0
+Stays s acts = Kept s → Faithful s → Faithful (performed histories acts s)
 
-turns_so : (file : Option (List ℕ)) → ByTurn file Stays
+turns_so : (file : Option (List ℕ)) → EachTurn file Stays
 turns_so file = record {
-  stays = λ s k h. h;
+  nothing = λ s k h. h;
   answers = λ l p rest s nothing k h.
       let t = on_with (Some l) (p ∷ rest) s in
       answering_faithful l p rest s (answer_to t.now l.terms file p) (answer_is_mild t.now l.terms file p nothing).0
@@ -163,46 +152,41 @@ turns_so file = record {
 -- the program is marked
 hold_agrees : (l : Option Link) (s : Session) → Faithful (on l s)
     → AgreesOn l s.now.limits.last_seq (on_program (marked mark.Hold) s.now.debuggee.program) s.now.numbers (known s.life)
-hold_agrees None s h = tt
-hold_agrees (Some l) s h = λ few. marked_agrees mark.Hold (known s.life) s.now.debuggee.program s.now.numbers l.terms (h.agrees few)
+hold_agrees l s h = grind (arith, marked_agrees, h.agrees)
 
-events_so : ByEvent (λ e. Stays)
-events_so = record {
-  stays = λ e s k h. h;
-  opens = λ s k h. record {
+outcome_so : (e : Event) (s : Session) → Stays s (outcome_at (histories.see s) s.now.link e).acts
+outcome_so e s = by_event (histories.see s) s.now.link (λ _ o. Stays s o.acts) (record {
+  refuses = λ _ _ k h. h;
+  opens = λ k. opens_by Faithful s.now.link s (λ h. record {
     was = record { before = All-push Held s.before s.life h.was.before h.was.present; present = tt; owes = h.was.owes };
     agrees = λ _. nothing_agrees false s.now.debuggee.program s.now.numbers first_terms refl;
-  };
-  accepts = λ l piece s k h.
+  });
+  accepts = λ piece k. accepts_by Faithful s.now.link piece s (λ l _ h.
       let asks = asks_of (read_on s.now piece).bodies in
       record {
-        was = record {
-          before = h.was.before;
-          present = all_hold_same s.life.heard asks nothing_known s.life.said k.0.present h.was.present;
-          owes = h.was.owes;
-        };
+        was = assumption (all_hold_same s.life.heard asks nothing_known s.life.said k.0.present h.was.present);
         agrees =
-            λ few. subst (λ (f : Facts). Agrees f s.now.debuggee.program s.now.numbers l.terms)
-            (sym (known_same s.life.heard asks nothing_known s.life.said k.0.present)) (h.agrees few);
-      };
-  turns = turns_so;
-  holds = λ s k h. record {
+            λ few. rw (known_same s.life.heard asks nothing_known s.life.said k.0.present) (h.agrees few);
+      });
+  turns = λ file. each_turn file Stays (turns_so file) s.now.link s;
+  slices = λ _ k h. h;
+  holds = λ k h. record {
     was = assumption (owes_after (marked mark.Hold) (marked_owes mark.Hold) s.now.debuggee.program h.was.owes);
     agrees = hold_agrees s.now.link s h;
   };
-  takes = λ n s k h. assumption;
-  drops = λ s k h. record {
+  takes = λ n k h. assumption;
+  drops = λ _ _ k h. record {
     was = assumption (owes_after left (λ p _. nothing_owed (left p) refl) s.now.debuggee.program h.was.owes);
     agrees = tt;
   };
-}
+}) e
 
 -- ---- slices
 
 beat_leads : (l : Option Link) (s : Session) (more : Bool) → Faithful (on l s) → LeadsIf l s (beat (histories.see (on l s)) more).acts
 beat_leads None s more h = tt
-beat_leads (Some l) s more h =
-    λ few. program_leads l.terms s.now.numbers (known s.life) s.now.debuggee.program (histories.see (on (Some l) s)) more refl h.was.owes
+beat_leads (Some l) s more h = λ few.
+    program_leads l.terms s.now.numbers (known s.life) s.now.debuggee.program (histories.see (on (Some l) s)) more refl h.was.owes
     (h.agrees few)
 
 beat_so : (s : Session) (more : Bool) → Faithful s → Faithful (performed histories (beat (histories.see s) more).acts s)
@@ -214,21 +198,17 @@ abbrev pub Told : Session → Type 0
 Told s = Kept s × Faithful s
 
 pub beats_so : (n i : ℕ) (s : Session) → Told s → Told (beats histories n i s).state
-beats_so n i s h = by_beats Told (λ t more x. (beat_keeps Knows knows t more x.0, beat_so t more x.1)) n i s h
+beats_so = by_beats Told (λ t more x. (beat_keeps Knows knows t more x.0, beat_so t more x.1))
 
 event_so : (e : Event) (s : Session) → Told s → Told (Effect s e)
 event_so (Slice n) s h = beats_so n (enough n) s h
-event_so e s h = (outcome_keeps Knows knows s.now.link e s h.0, by_event (λ e. Stays) events_so e s.now.link s h.0 h.1)
-
-owes_first : (given : Option (List ℕ × List ℕ)) (size : ℕ) → OwesOf (first_program given size)
-owes_first None size = tt
-owes_first (Some g) size = λ some. absurd (some refl)
+event_so e s h = (outcome_keeps Knows knows s.now.link e s h.0, outcome_so e s h.0 h.1)
 
 pub told_at : (from : Beginning) (events : List Happened) → Told (Reached from events)
 told_at from events =
     reached Told event_so beats_so from (
       (knows_at_first from, begins_so from),
-      record { was = record { before = All-nil Held; present = tt; owes = owes_first from.program from.size }; agrees = tt },
+      record { was = record { before = All-nil Held; present = tt; owes = grind arith }; agrees = tt },
     ) events
 
 -- what was told on each connection was so

@@ -1,22 +1,12 @@
 -- `variables` and `readMemory`: the registers and the bytes that their successes tell have these values.
-use Rattle.session_laws.proofs.Headline.Common.{[], after_variable, after_variables, All, All-drop, All-head, All-map, All-nil, All-push, All-tail, All-take, and_parts, arith, Asked, begins, Bool, codes, cond, drop, eqb, eqb-true, Err, Facts, false, Hart, HoldsAt, if_keeps, IsTrue, leb, leb-true, length, List, list_all, ltb, map, min, nat_tests, None, Numbers, offset_by, Ok, Option, Program, refl, Refusal, register_at, register_of, ResponseBody, Result, same_Some, slice_get, slice_index, Some, start, subst, suc, succeeded, sym, take, Target, Terms, true, valued, zero, ℕ, ◌&&◌, ◌++◌, ◌+◌, ◌-◌, ◌<◌, ◌^◌, ◌∙◌, ◌∷◌, ◌≡◌}
-use Rattle.std.proofs.lemmas.List.Sums.{AllPass-from_list_all}
-use Rattle.answers.specs.Parts.{at_most}
+use Rattle.session_laws.proofs.Headline.Common.{[], after_variable, after_variables, All, All-drop, All-head, All-map, All-nil, All-push, All-tail, All-take, AllPass-from_list_all, and_parts, arith, Asked, at_most, begins, Bool, byte_at, bytes_from, can_begin, codes, drop, eqb, eqb-true, Err, Facts, false, Filter, first_address, Frame, Hart, HoldsAt, if_keeps, IfOk, Indexed, IsTrue, leb, leb-true, length, List, list_all, ltb, map, min, nat_tests, None, Numbers, offset_by, Ok, Option, Program, read, ReadMemoryArguments, refl, Refusal, register_at, register_of, Registers, ResponseBody, Result, same_Some, slice_get, slice_index, Some, Stack, start, start_at, start_by, subst, suc, succeeded, sym, take, Target, Terms, true, valued, Variable, VariablesArguments, zero, ℕ, ◌&&◌, ◌++◌, ◌+◌, ◌-◌, ◌<◌, ◌^◌, ◌∙◌, ◌∷◌, ◌≡◌}
 use Rattle.answers.specs.Variables.{asked_of, body_by, of_kind, variables_in}
 use Rattle.mirror.specs.declared.asked.Asked.TheVariants as asks
-use Rattle.protocol.specs.declared.filter.Filter.{Filter}
-use Rattle.protocol.specs.declared.filter.Filter.TheVariants.{Indexed, Named}
-use Rattle.protocol.specs.declared.variables.VariablesArguments.{VariablesArguments}
-use Rattle.message_parts.specs.declared.variables.Variable.{Variable}
 use Rattle.rv32i.specs.Names.{name_of, number_named}
 use Rattle.variables.specs.Registers.{counter, numbers as register_numbers, register, registers}
 use Rattle.variables.specs.Stack.{stack_words, word}
-use Rattle.variables.specs.declared.target.Target.TheVariants as target
 use Rattle.answers.proofs.MemoryBytes.{begins_inside, byte_there}
-use Rattle.answers.specs.ReadMemory.{bytes_from, can_begin, read, start_at, start_by}
-use Rattle.image.specs.Memory.{byte_at, first_address}
 use Rattle.mirror.specs.Folding.{over}
-use Rattle.protocol.specs.declared.read_memory.ReadMemoryArguments.{ReadMemoryArguments}
 use Rattle.session_laws.proofs.Headline.Agreeing.{Agrees, never, stand_agrees, Stands}
 
 -- a variable that has a register's name has its value
@@ -31,21 +21,20 @@ AllTrue hart list = All (IsTrueOf hart) list
 -- what was known of the registers, with one more value, is so where that is
 pub valued_so : (r value : ℕ) (old was so : ℕ → Option ℕ) → so r ≡ Some value → ((k : ℕ) → eqb r k ≡ false → so k ≡ was k) → HoldsAt old was
     → HoldsAt (valued (Some r) value old) so
-valued_so r value old was so is others h place x e = by (eqb r place) refl e where
-  by : (b : Bool) → eqb r place ≡ b → cond b (Some value) (old place) ≡ Some x → so place ≡ Some x
-  by true same e = subst (λ (k : ℕ). so k ≡ Some value) (eqb-true r place same) is ∙ e
-  by false other e = others place other ∙ h place x e
+valued_so r value old was so is others h place x e =
+    if_keeps (λ (y : Option ℕ). y ≡ Some x → so place ≡ Some x) (eqb r place) (Some value) (old place)
+    (λ same e. subst (λ (k : ℕ). so k ≡ Some value) (eqb-true r place same) is ∙ e) (λ other e. others place other ∙ h place x e) e
 
 after_variables_hold : (hart : Hart) (list : List Variable) (old : ℕ → Option ℕ) → AllTrue hart list → HoldsAt old (register_at hart)
     → HoldsAt (after_variables old list) (register_at hart)
 after_variables_hold hart [] old t h = h
 after_variables_hold hart (v ∷ list) old t h =
     after_variables_hold hart list (after_variable old v) (All-tail (IsTrueOf hart) v list t)
-    (by (register_of v.name) (All-head (IsTrueOf hart) v list t)) where
-      by : (register : Option ℕ) → ((number : ℕ) → register ≡ Some number → register_at hart number ≡ Some v.value)
-          → HoldsAt (valued register v.value old) (register_at hart)
-      by None is = h
-      by (Some r) is = valued_so r v.value old (register_at hart) (register_at hart) (is r refl) (λ _ _. refl) h
+    (elim (register_of v.name) as (λ register. ((number : ℕ) → register ≡ Some number → register_at hart number ≡ Some v.value)
+    → HoldsAt (valued register v.value old) (register_at hart)) [
+      | None ↦ λ is. h
+      | Some r ↦ λ is. valued_so r v.value old (register_at hart) (register_at hart) (is r refl) (λ _ _. refl) h
+    ] (All-head (IsTrueOf hart) v list t))
 
 -- ---- parts of a list
 
@@ -55,9 +44,8 @@ at_most_true hart (Some count) list h =
     if_keeps (AllTrue hart) (eqb count 0) list (take count list) (λ _. h) (λ _. All-take (IsTrueOf hart) count list h)
 
 of_kind_true : (hart : Hart) (filter : Option Filter) (list : List Variable) → AllTrue hart list → AllTrue hart (of_kind filter list)
-of_kind_true hart None list h = h
-of_kind_true hart (Some Named) list h = h
 of_kind_true hart (Some Indexed) list h = All-nil (IsTrueOf hart)
+of_kind_true hart _ list h = h
 
 asked_true : (hart : Hart) (arguments : VariablesArguments) (list : List Variable) → AllTrue hart list
     → AllTrue hart (asked_of arguments list)
@@ -115,14 +103,12 @@ pub over_all : {A : Type 0} (P : ℕ → A → Type 0) (first : ℕ) (items : Li
     → (place : ℕ) → (x : A) → over first items old place ≡ Some x → P place x
 unfolding over
 over_all {A = A} P first items old each before place x e =
-    by (leb first place && ltb place (first + length items) && ltb place (2 ^ 32)) refl e where
-      by : (b : Bool) → (leb first place && ltb place (first + length items) && ltb place (2 ^ 32)) ≡ b
-          → cond b (slice_get items (place - first)) (old place) ≡ Some x → P place x
-      by true so e =
-          let low = leb-true first place (and_parts _ _ (and_parts _ _ so).0).0 in
-          let there : first + (place - first) ≡ place = omega (arith, low) in
-          subst (λ (k : ℕ). P k x) there (each (place - first) x e)
-      by false so e = before place x so e
+    if_keeps (λ (found : Option A). found ≡ Some x → P place x)
+    (leb first place && ltb place (first + length items) && ltb place (2 ^ 32)) _ _
+    (λ so e.
+    let low = leb-true first place (and_parts _ _ (and_parts _ _ so).0).0 in
+    let there : first + (place - first) ≡ place = omega (arith, low) in
+    subst (λ (k : ℕ). P k x) there (each (place - first) x e)) (λ so e. before place x so e) e
 
 pub get_take : {A : Type 0} (n : ℕ) (l : List A) (j : ℕ) (x : A) → slice_get (take n l) j ≡ Some x → (slice_get l j ≡ Some x) × (j < n)
 get_take {A = A} zero l j x e = never x e
@@ -143,10 +129,7 @@ bytes_so memory count address begins j x e =
 pub that_body : (P : ResponseBody → Type 0) (a b : ResponseBody) → P a → (let r : Result ResponseBody Refusal = Ok a in r ≡ Ok b) → P b
 that_body P a b h e = subst P (let same : a ≡ b = cc in same) h
 
-pub no_body : {A : Type 0} (refusal : Refusal) (b : ResponseBody) → (let r : Result ResponseBody Refusal = Err refusal in r ≡ Ok b) → A
-no_body refusal b e = absurd (cc)
-
-module _ (f : Facts) (p : Program) (numbers : Numbers) (terms : Terms) (s : Stands f p numbers terms) (b : ResponseBody) where
+module _ (f : Facts) (p : Program) (numbers : Numbers) (terms : Terms) (s : Stands f p numbers terms) where
   listed_agrees : (arguments : VariablesArguments) (list : List Variable) → AllTrue p.machine.hart list
       → Agrees (record f { register = after_variables f.register (asked_of arguments list) }) (Some p) numbers terms
   listed_agrees arguments list all =
@@ -159,17 +142,16 @@ module _ (f : Facts) (p : Program) (numbers : Numbers) (terms : Terms) (s : Stan
   abbrev TellsSo : Asked → ResponseBody → Type 0
   TellsSo asked body = Agrees (succeeded body asked f) (Some p) numbers terms
 
-  pub variables_agree : (arguments : VariablesArguments) (found : Result Target Refusal) → body_by arguments (variables_in p.machine found) ≡ Ok b
-      → TellsSo asks.Variables b
-  variables_agree arguments (Ok (target.Frame index)) e = no_body _ b e
-  variables_agree arguments (Ok target.Registers) e =
-      that_body (TellsSo asks.Variables) _ b (listed_agrees arguments (registers p.machine.hart) (registers_true p.machine.hart)) e
-  variables_agree arguments (Ok target.Stack) e =
-      that_body (TellsSo asks.Variables) _ b (listed_agrees arguments (stack_words p.machine.hart p.machine.memory) (stack_true p.machine.hart p.machine.memory)) e
-  variables_agree arguments (Err refusal) e = no_body refusal b e
+  pub variables_agree : (arguments : VariablesArguments) (found : Result Target Refusal)
+      → IfOk (body_by arguments (variables_in p.machine found)) (TellsSo asks.Variables)
+  variables_agree arguments (Ok (Frame index)) = tt
+  variables_agree arguments (Ok Registers) = listed_agrees arguments (registers p.machine.hart) (registers_true p.machine.hart)
+  variables_agree arguments (Ok Stack) =
+      listed_agrees arguments (stack_words p.machine.hart p.machine.memory) (stack_true p.machine.hart p.machine.memory)
+  variables_agree arguments (Err refusal) = tt
 
   abbrev Reads : ℕ → Result ℕ Refusal → Type 0
-  Reads count start = read p.machine.memory count start ≡ Ok b → TellsSo asks.ReadMemory b
+  Reads count start = IfOk (read p.machine.memory count start) (TellsSo asks.ReadMemory)
 
   bytes_agree : (count address : ℕ) → IsTrue (can_begin p.machine.memory count address)
       → Agrees (record f { byte = over address (bytes_from p.machine.memory count address) f.byte }) (Some p) numbers terms
@@ -182,14 +164,13 @@ module _ (f : Facts) (p : Program) (numbers : Numbers) (terms : Terms) (s : Stan
       (bytes_so memory count address begins) (λ place x _ e. h.byte place x e)) s.agrees.numbered
 
   read_at : (count : ℕ) (address : Option ℕ) → Reads count (start_at p.machine.memory count address)
-  read_at count None = no_body _ b
+  read_at count None = tt
   read_at count (Some address) =
-      if_keeps (Reads count) (can_begin p.machine.memory count address) (Ok address) _
-      (λ begins. that_body (TellsSo asks.ReadMemory) _ b (bytes_agree count address begins)) (λ _. no_body _ b)
+      if_keeps (Reads count) (can_begin p.machine.memory count address) (Ok address) _ (bytes_agree count address) (λ _. tt)
 
   pub read_agrees : (arguments : ReadMemoryArguments) (reference : Option ℕ)
       → Reads arguments.count (start_by p.machine.memory arguments reference)
-  read_agrees arguments None = no_body _ b
+  read_agrees arguments None = tt
   read_agrees arguments (Some reference) =
-      if_keeps (Reads arguments.count) (ltb 65536 arguments.count) _ _ (λ _. no_body _ b)
+      if_keeps (Reads arguments.count) (ltb 65536 arguments.count) _ _ (λ _. tt)
       (λ _. read_at arguments.count (offset_by arguments.offset (Some reference)))

@@ -1,58 +1,28 @@
 -- Each body that answers a request can be read: its texts are UTF-8, and it is written in fewer than 4,000,000,000 bytes.
-use Rattle.session_laws.proofs.Messages.Common.{[], addresses, All, All-append, All-cons, All-drop, All-head, All-map, All-nil, All-tail, All-take, All-weaker, Answer, arith, bind, Bool, breaks_answer, codes, Command, Conditions, conditions_of, Debugged, decimal, drop, entries_of, eqb, Err, expression_of, false, file_name, find, first_greatest, fitting, followed_by, frame_at, frames_given, get_or, Hart, HoldsWords, if_keeps, IfOk, IfSome, in_image, indices, Label, label_at, leb, leb-true, length, length-append, length-drop, length-map, length-take, line_in_image, line_of, List, list_of, ltb, map, message_of, min, name_at, name_by, next_after, None, Numbers, Ok, Option, option_map, place_of, pos, prefix_len, range_with_len, refl, Refusal, ResponseBody, Result, set_in, set_variable, setting_of, SetVariableArguments, slice_index, Some, source_by, SourceBreakpoint, suc, sum_by, Table, take, take_while, TooMuch, Tree, true, up_to, View, Wanted, with_targets, write_memory, WriteMemoryArguments, Writing, zero, ℕ, ℤ, ◌*◌, ◌++◌, ◌+ℤ◌, ◌+◌, ◌-◌, ◌<◌, ◌^◌, ◌∷◌, ◌≡◌, ◌≤◌}
+use Rattle.session_laws.proofs.Messages.Common.{[], addresses, All, All-append, All-cons, All-drop, All-filter, All-head, All-map, All-nil, All-tail, All-take, All-weaker, Answer, AreTexts, arith, asked_of, at_most, body_by as variables_by, Bool, breaks_answer, bytes_at, bytes_from, codes, Command, Debugged, decimal, drop, entries_of, eqb, Err, false, fault_at, file_name, Filter, find, first_address, first_greatest, followed_by, frame_at, frames_given, get_or, Hart, HoldsWords, if_keeps, IfOk, IfSome, in_image, Indexed, indices, InstructionBreakpoint as AddressEntry, Label, label_at, leb, leb-true, length, length-append, length-drop, length-map, length-take, line_of, List, list_all-append, list_of, little_endian, look_answer, ltb, map, message_of, min, most_of_body, most_of_frame, most_of_instruction, most_of_instruction_breakpoint, most_of_source, most_of_source_breakpoint, most_of_variable, name_at, name_by, next_after, None, Numbers, of_kind, Ok, Option, option_map, or_parts, part, place_of, pos, prefix_len, range_with_len, read, ReadMemoryArguments, refl, Refusal, Registers, ResponseBody, Result, result_ok, set_variable, SetVariableArguments, slice_index, Some, source_by, SourceBreakpoint, Stack, start_at, start_by, suc, sum_by, sum_by-le, Table, take, take_while, Target, target_of, texts_are_escaped, texts_if, texts_of, TooMuch, true, unless_fault, up_to, Variable, variables_in, VariablesArguments, View, Wanted, whole, with_targets, word_of, write_memory, WriteMemoryArguments, written_length, zero, ℕ, ℤ, ◌*◌, ◌++◌, ◌+ℤ◌, ◌+◌, ◌-◌, ◌<◌, ◌^◌, ◌∷◌, ◌≡◌, ◌≤◌}
 use Rattle.std.proofs.Common.{ltb-false}
-use Rattle.std.proofs.lemmas.Bool.{or_parts}
-use Rattle.std.proofs.lemmas.List.Elements.{All-filter}
-use Rattle.std.proofs.lemmas.List.Folds.{list_all-append}
-use Rattle.std.proofs.lemmas.List.Sums.{sum_by-le}
-use Rattle.std.specs.Result.{result_ok}
 use Rattle.answers.specs.Disassemble.{disassembled, entries_from, entry, entry_by, first_place, start_by as places_by, word_in, wrapped}
-use Rattle.answers.specs.Evaluate.{if_valued, unless_refused, valued}
-use Rattle.answers.specs.Looking.{look_answer}
-use Rattle.answers.specs.Parts.{at_most, part}
-use Rattle.answers.specs.ReadMemory.{bytes_from, read, start_at, start_by}
-use Rattle.answers.specs.Scopes.{body_by as scopes_by}
 use Rattle.answers.specs.SetBreakpoints as source
 use Rattle.answers.specs.SetFunctionBreakpoints as function
 use Rattle.answers.specs.SetInstructionBreakpoints as instruction
-use Rattle.answers.specs.Targets.{frame_of, frame_refusal, target_of}
-use Rattle.answers.specs.WriteMemory.{start as start_of_writing, written as written_by}
-use Rattle.answers.specs.Variables.{asked_of, body_by as variables_by, of_kind, variables_in}
 use Rattle.answers.proofs.ProperLooks.{of_bytes, some_dropped}
 use Rattle.answers.proofs.Ranges.{length_range}
 use Rattle.answers.proofs.Words.{all_bytes, small_at}
-use Rattle.breakpoints.specs.Values.{value_of}
-use Rattle.breakpoints.specs.declared.error.ExprFault.{ExprFault}
-use Rattle.image.specs.Memory.{bytes_at, fault_at, first_address, little_endian, unless_fault}
-use Rattle.image.specs.declared.fault.MemFault.{MemFault}
 use Rattle.numerals.specs.MemoryReferences.{address_of, offset_by}
-use Rattle.numerals.specs.Words.{word_of}
 use Rattle.protocol.specs.declared.command.Command.TheVariants as command
 use Rattle.protocol.specs.declared.disassemble.DisassembleArguments.{DisassembleArguments}
-use Rattle.protocol.specs.declared.filter.Filter.{Filter}
-use Rattle.protocol.specs.declared.filter.Filter.TheVariants.{Indexed, Named}
-use Rattle.protocol.specs.declared.read_memory.ReadMemoryArguments.{ReadMemoryArguments}
-use Rattle.protocol.specs.declared.variables.VariablesArguments.{VariablesArguments}
 use Rattle.message_parts.specs.Disassemble.{instruction as entry_form}
 use Rattle.message_parts.specs.EncodedBytes.{are_bytes}
-use Rattle.message_parts.specs.Forms.{AreTexts, texts_if, texts_of, whole}
 use Rattle.message_parts.specs.SetBreakpoints.{source_breakpoint}
 use Rattle.message_parts.specs.SetInstructionBreakpoints.{instruction_breakpoint}
 use Rattle.message_parts.specs.StackTrace.{source as source_form, stack_frame}
 use Rattle.message_parts.specs.Variables.{variable}
 use Rattle.message_parts.specs.declared.disassemble.Instruction.{Instruction}
 use Rattle.message_parts.specs.declared.set_breakpoints.SourceBreakpoint.{SourceBreakpoint as LineEntry}
-use Rattle.message_parts.specs.declared.set_instruction_breakpoints.InstructionBreakpoint.{InstructionBreakpoint as AddressEntry}
 use Rattle.message_parts.specs.declared.stack_trace.StackFrame.{StackFrame}
-use Rattle.message_parts.specs.declared.variables.Variable.{Variable}
 use Rattle.replies.specs.Bodies.{texts_in}
-use Rattle.text_laws.specs.Lengths.{most_of_body, most_of_frame, most_of_instruction, most_of_instruction_breakpoint, most_of_source, most_of_source_breakpoint, most_of_variable, written_length}
-use Rattle.text_laws.proofs.Sizes.{texts_are_escaped}
-use Rattle.variables.specs.Registers.{counter, name_answer, numbers, register, registers}
+use Rattle.variables.specs.Registers.{counter, numbers, register, registers}
 use Rattle.variables.specs.Stack.{has_word, stack_words, word}
-use Rattle.variables.specs.Values.{value_of as value_in}
-use Rattle.variables.specs.declared.target.Target.{Target}
-use Rattle.variables.specs.declared.target.Target.TheVariants as target
 use Rattle.session_laws.proofs.Messages.FileNames.{file_name_within}
 use Rattle.session_laws.proofs.Messages.Instructions.{digits_plain, disassembly_plain, name_few, name_plain}
 use Rattle.session_laws.proofs.Messages.Programs.{Few, IsShortLabel, IsShortText, SaysShort}
@@ -99,15 +69,13 @@ each_so P xs h = λ k d below. h (get_or xs k d)
 
 part_few : {A : Type 0} (P : A → Type 0) (most start : ℕ) (count : Option ℕ) (list : List A) → Few P most list
     → Few P most (part start count list)
-part_few {A} P most start count list h = by count where
-  left : Few P most (drop start list)
-  left = (All-drop P start list h.0, omega (arith, length-drop start list, h.1))
-
-  by : (count : Option ℕ) → Few P most (at_most count (drop start list))
-  by None = left
-  by (Some n) =
-      if_keeps (Few P most) (eqb n 0) (drop start list) (take n (drop start list)) (λ _. left)
-      (λ _. (All-take P n (drop start list) left.0, omega (arith, length-take n (drop start list), left.1)))
+part_few {A} P most start count list h =
+    let left : Few P most (drop start list) = (All-drop P start list h.0, omega (arith, length-drop start list, h.1)) in
+    elim count as (λ count. Few P most (at_most count (drop start list))) [
+      | None ↦ left
+      | Some n ↦ if_keeps (Few P most) (eqb n 0) (drop start list) (take n (drop start list)) (λ _. left)
+          (λ _. (All-take P n (drop start list) left.0, omega (arith, length-take n (drop start list), left.1)))
+    ]
 
 -- ---- breakpoints: what an entry says of a problem, whichever it is, is a few plain bytes
 
@@ -166,20 +134,7 @@ set_few {A} {P} C judged wanted says next (one ∷ others) h =
 line_says : (own : Bool) (table : Table) (base : ℕ) (asked : SourceBreakpoint) → WritesShort asked
     → IfOk (source.judged own table base asked) (λ place. (id : ℕ) → Says (source.wanted id place))
 line_says false table base asked h = tt
-line_says true table base asked h =
-    by (conditions_of asked.condition asked.hit_condition) (bind table (line_in_image base asked.line)) asked.log_message h where
-      by : (conditions : Result Conditions Problem) (found : Option (ℕ × ℕ)) (log : Option (List ℕ)) → SaysShort log
-          → IfOk (source.placed conditions found (source.written log)) (λ place. (id : ℕ) → Says (source.wanted id place))
-      by (Err problem) found log h = tt
-      by (Ok conditions) None log h = tt
-      by (Ok conditions) (Some found) None h = λ id. tt
-      by (Ok conditions) (Some found) (Some []) h = λ id. tt
-      by (Ok conditions) (Some found) (Some (byte ∷ text)) h = λ id. h
-
--- a breakpoint of another kind says nothing
-silent : (found : Result instruction.Place Problem) → IfOk found (λ place. (id : ℕ) → Says (instruction.wanted id place))
-silent (Ok place) = λ id. tt
-silent (Err problem) = tt
+line_says true table base asked h = grind arith
 
 -- an answer that can be read, and a list that is short where one is set
 abbrev pub IsFine : Answer → Type 0
@@ -192,10 +147,10 @@ lines_fine own table view next asked few h =
     let entries = entries_few IsLine (source.judged own table base) (source.entry base) (line_fits base) next asked in
     (listed source_breakpoint.texts most_of_source_breakpoint 3000 1024 _ refl (entries.0, omega (arith, entries.1, few)), sets own) where
       sets : (own : Bool) → IfSome (source.of_source own table view next asked).list (Few Says 1024)
+      sets false = tt
       sets true =
           let set = set_few WritesShort (source.judged true table view.line_base) source.wanted (line_says true table view.line_base) next asked h in
           (set.0, omega (arith, set.1, few))
-      sets false = tt
 
 addresses_fine : {A : Type 0} (judged : A → Result instruction.Place Problem) (next : ℕ) (asked : List A) → length asked ≤ 1024
     → let entries = entries_of judged instruction.entry next asked in
@@ -203,7 +158,7 @@ addresses_fine : {A : Type 0} (judged : A → Result instruction.Place Problem) 
     × Few Says 1024 (list_of judged instruction.wanted next asked)
 addresses_fine {A} judged next asked few =
     let entries = entries_few IsAddress judged instruction.entry (λ id one found. address_fits id one found) next asked in
-    let set = set_few (λ (one : A). Unit {0}) judged instruction.wanted (λ one _. silent (judged one)) next asked (λ k d below. tt) in (
+    let set = set_few (λ (one : A). Unit {0}) judged instruction.wanted (λ one _. grind arith) next asked (λ k d below. tt) in (
       listed instruction_breakpoint.texts most_of_instruction_breakpoint 3000 1024 _ refl (entries.0, omega (arith, entries.1, few)),
       (set.0, omega (arith, set.1, few)),
     )
@@ -244,8 +199,7 @@ label_found table address h =
       below = up_to address table.labels
 
       of : (label : Option Label) → IfSome label IsShortLabel → HasPlainName (option_map (λ l. (l.0, address - place_of l)) label)
-      of None h = tt
-      of (Some label) h = h
+      of label h = grind arith
 
 name_fits : (address : ℕ) (found : Option (List ℕ × ℕ)) → address < 2 ^ 32 → HasPlainName found
     → IsPlainWithin 1048641 (name_by address found)
@@ -320,32 +274,30 @@ words_few hart memory =
     )
 
 kind_few : (kind : Option Filter) (list : List Variable) → Few IsVariable 97 list → Few IsVariable 97 (of_kind kind list)
-kind_few None list h = h
-kind_few (Some Named) list h = h
 kind_few (Some Indexed) list h = (All-nil IsVariable, omega arith)
+kind_few _ list h = h
 
 variables_readable : (arguments : VariablesArguments) (machine : Debugged) (found : Result Target Refusal)
     → IfOk (variables_by arguments (variables_in machine found)) IsReadable
-variables_readable arguments machine found = by found where
-  of : (list : List Variable) → Few IsVariable 97 list → IfOk (variables_by arguments (Ok list)) IsReadable
-  of list h =
-      listed variable.texts most_of_variable 3000 97 (asked_of arguments list) refl
-      (part_few IsVariable 97 arguments.start arguments.count (of_kind arguments.filter list) (kind_few arguments.filter list h))
-
-  by : (found : Result Target Refusal) → IfOk (variables_by arguments (variables_in machine found)) IsReadable
-  by (Ok (target.Frame index)) = tt
-  by (Ok target.Registers) = of (registers machine.hart) (registers_few machine.hart)
-  by (Ok target.Stack) = of (stack_words machine.hart machine.memory) (words_few machine.hart machine.memory)
-  by (Err refusal) = tt
+variables_readable arguments machine found =
+    elim found as (λ found. IfOk (variables_by arguments (variables_in machine found)) IsReadable) [
+      | Ok Registers ↦ of (registers machine.hart) (registers_few machine.hart)
+      | Ok Stack ↦ of (stack_words machine.hart machine.memory) (words_few machine.hart machine.memory)
+      | _ ↦ tt
+    ] where
+      of : (list : List Variable) → Few IsVariable 97 list → IfOk (variables_by arguments (Ok list)) IsReadable
+      of list h =
+          listed variable.texts most_of_variable 3000 97 (asked_of arguments list) refl
+          (part_few IsVariable 97 arguments.start arguments.count (of_kind arguments.filter list) (kind_few arguments.filter list h))
 
 -- ---- instructions
 
 word_small : (memory : List ℕ) (found : Option ℕ) → are_bytes memory ≡ true → IfSome (word_in memory found) (λ w. w < 2 ^ 32)
 word_small memory None h = tt
-word_small memory (Some address) h = by (fault_at memory 4 address 4) where
-  by : (fault : Option MemFault) → IfSome (result_ok (unless_fault fault (little_endian (bytes_at memory address 4)))) (λ w. w < 2 ^ 32)
-  by (Some fault) = tt
-  by None = of_bytes (drop (address - first_address) memory) (some_dropped memory (address - first_address) h)
+word_small memory (Some address) h =
+    elim (fault_at memory 4 address 4) as
+    (λ fault. IfSome (result_ok (unless_fault fault (little_endian (bytes_at memory address 4)))) (λ w. w < 2 ^ 32))
+    [ Some fault ↦ tt | None ↦ of_bytes (drop (address - first_address) memory) (some_dropped memory (address - first_address) h) ]
 
 abbrev IsEntry : Instruction → Type 0
 IsEntry = Fits entry_form.texts most_of_instruction 3000
@@ -393,43 +345,13 @@ bytes_readable memory arguments (Some reference) =
 
 -- ---- bodies of one size, without texts
 
-scopes_readable : (issued : Numbers) (found : Result ℕ Refusal) → IfOk (scopes_by issued found) IsReadable
-scopes_readable issued (Err refusal) = tt
-scopes_readable issued (Ok zero) = (tt, omega arith)
-scopes_readable issued (Ok (suc index)) = (tt, omega arith)
-
-value_readable : (why : Option Refusal) (tree : Option Tree) (hart : Hart) (memory : List ℕ)
-    → IfOk (unless_refused why (valued tree hart memory)) IsReadable
-value_readable (Some refusal) tree hart memory = tt
-value_readable None None hart memory = tt
-value_readable None (Some tree) hart memory = by (value_of tree hart memory) where
-  by : (value : Result ℕ ExprFault) → IfOk (if_valued value) IsReadable
-  by (Ok value) = (tt, omega arith)
-  by (Err fault) = tt
-
 pub settings_are_readable : (arguments : SetVariableArguments) (machine : Debugged) (issued : Numbers)
     → IfOk (set_variable arguments machine issued) (λ setting. IsReadable setting.body)
-settings_are_readable arguments machine issued = by (target_of issued arguments.variables_reference) where
-  set : (number : Result ℕ Refusal) (value : Option ℕ) → IfOk (setting_of machine.hart number value) (λ setting. IsReadable setting.body)
-  set (Err refusal) value = tt
-  set (Ok number) None = tt
-  set (Ok number) (Some value) = (tt, omega arith)
-
-  by : (found : Result Target Refusal) → IfOk (set_in arguments machine found) (λ setting. IsReadable setting.body)
-  by (Ok (target.Frame index)) = tt
-  by (Ok target.Registers) = set (name_answer arguments.name) (value_in arguments.value)
-  by (Ok target.Stack) = tt
-  by (Err refusal) = tt
+settings_are_readable arguments machine issued = grind arith
 
 pub writings_are_readable : (arguments : WriteMemoryArguments) (memory : List ℕ)
     → IfOk (write_memory arguments memory) (λ writing. IsReadable writing.body)
-writings_are_readable arguments memory = by (start_of_writing memory arguments) where
-  by : (found : Result ℕ Refusal) → IfOk (written_by memory arguments found) (λ writing. IsReadable writing.body)
-  by (Err refusal) = tt
-  by (Ok address) =
-      let P : Result Writing Refusal → Type 0 = λ found. IfOk found (λ writing. IsReadable writing.body) in
-      if_keeps P (eqb (fitting memory (length arguments.bytes) address) (length arguments.bytes)) _ _ (λ _. (tt, omega arith))
-      (λ _. if_keeps P arguments.allow_partial _ _ (λ _. (tt, omega arith)) (λ _. tt))
+writings_are_readable arguments memory = grind arith
 
 -- ---- each request that looks into a machine
 
@@ -451,11 +373,11 @@ looks_are_readable (command.StackTrace arguments) machine table issued view hold
       omega (arith, length-map indices_given (frame_at table view given places), some.1),
     )
 looks_are_readable (command.Scopes arguments) machine table issued view holds labels path =
-    scopes_readable issued (frame_of issued arguments.frame_id)
+    grind arith
 looks_are_readable (command.Variables arguments) machine table issued view holds labels path =
     variables_readable arguments machine (target_of issued arguments.variables_reference)
 looks_are_readable (command.Evaluate arguments) machine table issued view holds labels path =
-    value_readable (frame_refusal issued arguments.frame_id) (expression_of arguments.expression) machine.hart machine.memory
+    grind arith
 looks_are_readable (command.Disassemble arguments) machine table issued view holds labels path =
     disassembly_readable machine.memory arguments (word_of arguments.memory_reference) (all_bytes machine.memory holds.memory)
 looks_are_readable (command.ReadMemory arguments) machine table issued view holds labels path =

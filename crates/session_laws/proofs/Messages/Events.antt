@@ -1,20 +1,12 @@
 -- What an editor is told without a request, and that a program cannot be assembled, can be read.
-use Rattle.session_laws.proofs.Messages.Common.{[], arith, AsmError, AssemblyFailed, codes, decimal, error_text, IfSome, IsUtf8-append, kind_name, length, length-append, List, log_event, None, Option, Outcome, output_event, refl, Refused, said, signed_decimal, Some, stop_event, text_of, Why, ℕ, ℤ, ◌*◌, ◌++◌, ◌+◌, ◌∷◌, ◌≤◌}
-use Rattle.std.proofs.lemmas.List.Folds.{list_all-append}
+use Rattle.session_laws.proofs.Messages.Common.{[], AreTexts, arith, AsmError, AssemblyFailed, codes, decimal, error_text, event_texts, Exception, HasOutcomeTexts, IfSome, IsUtf8-append, kind_name, length, length-append, Limit, List, list_all-append, log_event, Met, most_of_event, most_of_outcome, None, Option, Outcome, output_event, refl, Refused, said, signed_decimal, Some, Start, stop_event, text, text_of, texts_if, texts_of, Told, whole, Why, written_length_if, ℕ, ℤ, ◌*◌, ◌++◌, ◌+◌, ◌∷◌, ◌≤◌}
 use Rattle.assembler.specs.declared.error.AsmErrorKind.{AsmErrorKind}
 use Rattle.assembler.specs.declared.error.AsmErrorKind.TheVariants as kind
-use Rattle.debuggee.specs.declared.run.Why.TheVariants as why
 use Rattle.json.proofs.Printed.Utf8.{IsUtf8-are_ascii}
-use Rattle.message_parts.specs.Forms.{AreTexts, text, texts_if, texts_of, whole}
-use Rattle.replies.specs.Events.{event_texts}
-use Rattle.replies.specs.Laws.{HasOutcomeTexts}
-use Rattle.replies.specs.declared.event.Event.{Event as Told}
 use Rattle.rv32i.specs.Causes.{cause_text}
 use Rattle.rv32i.specs.declared.stepped.Cause.{Cause}
 use Rattle.rv32i.specs.declared.stepped.Cause.TheVariants as cause
 use Rattle.stepping.specs.declared.tick.Reason.{Reason}
-use Rattle.stepping.specs.declared.tick.Reason.TheVariants as met
-use Rattle.text_laws.specs.Lengths.{most_of_event, most_of_outcome, written_length_if}
 use Rattle.session_laws.proofs.Messages.Bodies.{written_few}
 use Rattle.session_laws.proofs.Messages.Programs.{IsShortText}
 use Rattle.session_laws.proofs.Messages.Words.{IsPlainWithin, decimal_plain, digits_few, signed_few, signed_plain, spelled, utf8_of, written_of}
@@ -31,15 +23,15 @@ cause_plain : (c : Cause) → IsPlainWithin 40 (cause_text c)
 cause_plain cause.FetchOutside = spelled 40 _ refl
 cause_plain _ = spelled 40 _ refl
 
-met_plain : (r : Reason) → IfSome (text_of (why.Met r)) (IsPlainWithin 40)
-met_plain (met.Exception c) = cause_plain c
-met_plain met.Start = spelled 40 (codes "start of history") refl
+met_plain : (r : Reason) → IfSome (text_of (Met r)) (IsPlainWithin 40)
+met_plain (Exception c) = cause_plain c
+met_plain Start = spelled 40 (codes "start of history") refl
 met_plain _ = tt
 
 -- the text of a stop, if it has one
 why_plain : (reason : Why) → IfSome (text_of reason) (IsPlainWithin 40)
-why_plain why.Limit = spelled 40 (codes "instruction limit") refl
-why_plain (why.Met r) = met_plain r
+why_plain Limit = spelled 40 (codes "instruction limit") refl
+why_plain (Met r) = met_plain r
 why_plain _ = tt
 
 no_texts : (ids : List ℕ) (others : List (List ℕ)) → AreTexts others → AreTexts (texts_of whole.texts ids ++ others)

@@ -1,15 +1,9 @@
 -- The disassembly of a word is plain, and has at most 300 bytes.
-use Rattle.session_laws.proofs.Messages.Common.{[], and_parts, ap, arith, Bool, codes, eqb, false, get_or, if_keeps, leb, leb-true, length, length-append, List, list_all, refl, suc, text_at, text_at-is, true, zero, ℕ, ◌%◌, ◌/◌, ◌<◌, ◌^◌, ◌∷◌, ◌≡◌, ◌≤◌}
-use Rattle.std.proofs.lemmas.Bool.{agree_below_at}
+use Rattle.session_laws.proofs.Messages.Common.{[], agree_below_at, and_parts, ap, are_plain, arith, Bool, codes, Encodes, eqb, false, get_or, if_keeps, Instr, is_plain_byte, leb, leb-true, length, length-append, List, list_all, list_all-append, refl, suc, sum, text_at, text_at-is, true, zero, ℕ, ◌%◌, ◌/◌, ◌<◌, ◌^◌, ◌∷◌, ◌≡◌, ◌≤◌}
 use Rattle.std.specs.Bool.{MatchBool}
-use Rattle.rv32i.specs.Encoding.{Encodes}
-use Rattle.rv32i.specs.Machine.{sum}
 use Rattle.rv32i.specs.Names.{name_of, names}
 use Rattle.rv32i.specs.Texts.{Coded, eight_digits, HasText, hex_digit, Illegal, is_plain_fence, IsTextOf, letter, set_text, with_two, word_text}
-use Rattle.rv32i.specs.declared.instr.Instr.{Instr}
 use Rattle.rv32i.specs.declared.instr.Instr.TheVariants.{Fence, Ecall, Ebreak}
-use Rattle.std.proofs.lemmas.List.Folds.{list_all-append}
-use Rattle.text_laws.proofs.Plain.{are_plain, is_plain_byte}
 use Rattle.session_laws.proofs.Messages.Words.{IsPlainWithin, decimal_plain, digits_few, hexadecimal_plain, signed_few, signed_plain, spelled}
 
 -- ---- registers, numbers and addresses

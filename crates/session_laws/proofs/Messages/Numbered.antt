@@ -1,8 +1,6 @@
 -- Each message has a number that the protocol can have.
-use Rattle.session_laws.proofs.Messages.Common.{All, All-nil, All-push, and_parts, arith, Beginning, each_life, Happened, leb-true, Life, life_of, List, nat_le, Reached, reached_by_acts, refl, Said, said_next, Session, true, ℕ, ◌≡◌, ◌≤◌}
-use Rattle.session_laws.proofs.ByForms.{KeptByAnswers, KeptByOthers, by_forms}
-use Rattle.session.specs.Limits.{are_limits}
-use Rattle.session.specs.declared.limits.Limits.{Limits}
+use Rattle.session_laws.proofs.Messages.Common.{All, All-nil, All-push, arith, Beginning, each_life, Event, Happened, Life, life_of, Link, List, Message, nat_tests, None, Open, Pending, performed_on, Reached, reached_by_acts, refl, Response, response_to, Said, said_next, saying, Session, Some, Told, ℕ, ◌<◌, ◌∷◌, ◌≡◌, ◌≤◌}
+use Rattle.session_laws.proofs.ByForms.{KeptByAnswers, KeptByOthers, by_forms, on, on_with}
 
 abbrev pub IsIn : ℕ → Said → Type 0
 IsIn last m = (1 ≤ m.seq) × (m.seq ≤ last)
@@ -16,36 +14,23 @@ record Numbered (last : ℕ) (s : Session) : Type 0 where
   present : AllIn last s.life
 
 module _ (last : ℕ) where
+  says : (l : Link) (m : Message) (rest : List Pending) (s : Session) → l.seq < s.now.limits.last_seq → Numbered last s
+      → Numbered last (saying l m rest (on (Some l) s))
+  says l m rest s few h =
+      assumption (All-push (IsIn last) s.life.said (said_next s.now l m) h.present (omega arith, omega (arith, h.limit, few)))
+
+  opens : (s : Session) → Numbered last (on None s) → Numbered last (performed_on Open (on None s))
+  opens s h = assumption (All-push (AllIn last) s.before s.life h.before h.present, All-nil (IsIn last))
+
+  tells : (l : Link) (event : Told) (s : Session) → l.seq < s.now.limits.last_seq → Numbered last (on (Some l) s)
+      → Numbered last (saying l (Event event) s.now.arrivals.pending (on (Some l) s))
+  tells l event s few h = says l (Event event) s.now.arrivals.pending (on (Some l) s) few h
+
   others : KeptByOthers (Numbered last)
-  others = record {
-    opens =
-        λ s h. record { limit = h.limit; before = All-push (AllIn last) s.before s.life h.before h.present; present = All-nil (IsIn last) };
-    closes = λ s h. record { limit = h.limit; before = h.before; present = h.present };
-    accepts = λ l piece s e h. record { limit = h.limit; before = h.before; present = h.present };
-    agrees = λ l terms s h. record { limit = h.limit; before = h.before; present = h.present };
-    refers = λ l call s h. record { limit = h.limit; before = h.before; present = h.present };
-    becomes = λ d s h. record { limit = h.limit; before = h.before; present = h.present };
-    tells = λ l event s few h. record {
-      limit = h.limit;
-      before = h.before;
-      present =
-          All-push (IsIn last) s.life.said (said_next s.now l _) h.present (omega arith, (let is = h.limit in omega (arith, is, few)));
-    };
-    hangs = λ l s h. record { limit = h.limit; before = h.before; present = h.present };
-    takes = λ n s h. record { limit = h.limit; before = h.before; present = h.present };
-  }
+  others = assumption (opens, tells)
 
   answers : KeptByAnswers (Numbered last)
-  answers l p rest outcome s few h = record {
-    limit = h.limit;
-    before = h.before;
-    present = All-push (IsIn last) s.life.said (said_next s.now l _) h.present (omega arith, (let is = h.limit in omega (arith, is, few)));
-  }
-
-few_messages : (l : Limits) → are_limits l ≡ true → l.last_seq ≤ 2147483647
-few_messages l e =
-    let seq = (and_parts _ _ (and_parts _ _ e).0).0 in
-    leb-true l.last_seq 2147483647 (and_parts (nat_le 1 l.last_seq) (nat_le l.last_seq 2147483647) seq).1
+  answers l p rest outcome s few h = says l (Response (response_to p.ask outcome)) rest (on_with (Some l) (p ∷ rest) s) few h
 
 pub record InRange (last : ℕ) (life : Life) : Type 0 where
   pub few : last ≤ 2147483647
@@ -57,4 +42,4 @@ in_range from events c =
     let s = Reached from events in
     let h : Numbered last s = reached_by_acts (Numbered last) (by_forms (Numbered last) (others last) (answers last)) from
     (record { limit = refl; before = All-nil (AllIn last); present = All-nil (IsIn last) }) events in
-    record { few = few_messages from.limits from.numbers; all = each_life (AllIn last) s (All-nil (IsIn last)) h.before h.present c }
+    record { few = grind (arith, nat_tests, from.numbers); all = each_life (AllIn last) s (All-nil (IsIn last)) h.before h.present c }

@@ -1,25 +1,13 @@
 -- A program whose path, labels and logpoints are short texts, and whose lists are short: whatever is done to it.
 --
 -- It has no more than 1,024 breakpoints of each kind, so no more than three times as many stop it at once.
-use Rattle.session_laws.proofs.Messages.Common.{[], All, All-head, All-map, All-nil, All-tail, All-weaker, AllByRecursion, arith, assembled, Bool, checked, Command, cons_option, counted, Debugged, entered, error_of, false, filter_map, fresh, Goal, Hart, ids_where, if_keeps, IfSome, is_hit, IsPath, IsTextWithin, IsTick, just_loaded, Label, left, length, length-append, length-map, List, Lists, log_at, log_of, looked_at, map, Mark, marked, marked_by, moved, moved_as, None, not, Ok, Option, Placed, Program, refl, reset, restarted, Result, Run, settled, slice_get, Some, stands, stops, subst, suc, sym, told, undone, undone_by, Wanted, with_list, zero, ℕ, ◌++◌, ◌∷◌, ◌≡◌, ◌≤◌}
+use Rattle.session_laws.proofs.Messages.Common.{[], All, All-head, All-map, All-nil, All-tail, All-weaker, AllByRecursion, AllocError, arith, assembled, Bool, by_tick, checked, Command, cons_option, counted, Debugged, entered, error_of, false, filter_map, first_program, fresh, Goal, Hart, HasImage, ids_where, if_keeps, IfSome, is_hit, IsPath, IsTextWithin, IsTick, just_loaded, Label, left, length, length-append, length-map, List, Lists, log_at, log_of, looked_at, map, Mark, marked, marked_by, moved, moved_as, None, not, Ok, Option, Placed, plain_passes, Program, refl, reset, restarted, Result, SetBreakpoints, SetFunctionBreakpoints, SetInstructionBreakpoints, slice_get, Some, stands, stops, subst, suc, sym, the_tick, Tick, told, undone, Wanted, with_list, zero, ℕ, ◌++◌, ◌∷◌, ◌≡◌, ◌≤◌}
 use Rattle.std.proofs.Common.{filter}
 use Rattle.std.proofs.lemmas.List.Filters.{length-filter_both}
-use Rattle.std.specs.declared.alloc.AllocError.{AllocError}
-use Rattle.course.specs.Positions.{Position}
 use Rattle.debuggee.specs.declared.run.Run.TheVariants as run
-use Rattle.protocol.specs.declared.command.Command.TheVariants as command
-use Rattle.rv32i.specs.declared.instr.Instr.{Instr}
-use Rattle.rv32i.specs.declared.stepped.Stepped.{Stepped}
-use Rattle.rv32i.specs.declared.stepped.Stepped.TheVariants as stepped
-use Rattle.session.specs.Config.{HasImage, first_program}
 use Rattle.stepping.specs.Loading.{no_breakpoints, not_hit}
-use Rattle.stepping.specs.declared.goal.Goal.TheVariants as goal
-use Rattle.stepping.specs.declared.tick.Tick.{Tick}
-use Rattle.stepping.proofs.Cases.{by_tick}
-use Rattle.stepping.proofs.Existing.{the_tick}
 use Rattle.text_laws.specs.Labels.{IsNameWithin}
 use Rattle.text_laws.proofs.Labels.{labels_are_texts, programs_are_short}
-use Rattle.text_laws.proofs.Plain.{plain_passes}
 use Rattle.session_laws.proofs.Messages.Words.{IsPlainWithin}
 
 -- a text of a request or of a program
@@ -102,34 +90,17 @@ checked_few pc hart memory lists h = record {
       mapped (counted pc hart memory) list
       (All-weaker LogsShort (λ (b : Placed). LogsShort (counted pc hart memory b)) one list few.0, few.1)
 
-settled_few : (s : Stepped) (instr : Option Instr) (before d : Debugged) → HasFew d.lists → HasFew (settled s instr before d).lists
-settled_few (stepped.Exit code) instr before d h = none_named d.lists h
-settled_few (stepped.Trap cause) instr before d h = none_named d.lists h
-settled_few _ instr before d h = checked_few d.hart.pc d.hart d.memory d.lists h
-
-undone_few : (past : List Position) (d : Debugged) → HasFew d.lists → HasFew (undone_by past d).lists
-undone_few [] d h = h
-undone_few (before ∷ past) d h = h
-
 looked_few : (g : Goal) (d : Debugged) → HasFew d.lists → HasFew (looked_at g d).lists
-looked_few goal.ReverseGo d h = record {
-  source = h.source;
-  instructions = h.instructions;
-  functions = h.functions;
-  ids = few_ids (stands d.hart.pc d.hart d.memory) d.lists h;
-}
-looked_few goal.Go d h = none_named d.lists h
-looked_few _ d h = none_named d.lists h
+looked_few g d h = grind (arith, none_named d.lists h, few_ids (stands d.hart.pc d.hart d.memory) d.lists h)
 
 tick_few : (before after : Debugged) (answer : Result Tick AllocError) → IsTick before answer after → HasFew before.lists
     → HasFew after.lists
 tick_few before after answer t h =
     by_tick before after answer t
     (λ due x. subst (λ (d : Debugged). HasFew d.lists) (sym x.1) (checked_few before.hart.pc before.hart before.memory before.lists h))
-    (λ due turns x. subst (λ (d : Debugged). HasFew d.lists) (sym x.1)
-    (looked_few before.goal (undone before) (undone_few before.past before h)))
-    (λ due forward m. subst (λ (d : Debugged). HasFew d.lists) (sym m.settles.1)
-    (settled_few m.stepped m.instr before (moved_as before after) h))
+    (λ due turns x. rw x.1 (looked_few before.goal (undone before) (grind arith)))
+    (λ due forward m. let d = moved_as before after in
+    rw m.settles.1 (grind (arith, none_named d.lists h, checked_few d.hart.pc d.hart d.memory d.lists h)))
 
 -- what some logpoints say
 says_at : (list : List Placed) (place : ℕ) → All LogsShort list → SaysShort (log_of (slice_get list place))
@@ -141,11 +112,9 @@ pub logs_are_short : (lists : Lists) (places : List ℕ) → All LogsShort lists
     → AllByRecursion IsShortText (filter_map (log_at lists) places)
 logs_are_short lists [] h = tt
 logs_are_short lists (place ∷ places) h =
-    by (log_at lists place) (says_at lists.source place h) (logs_are_short lists places h) where
-      by : (log : Option (List ℕ)) → SaysShort log → AllByRecursion IsShortText (filter_map (log_at lists) places)
-          → AllByRecursion IsShortText (cons_option log (filter_map (log_at lists) places))
-      by None one others = others
-      by (Some text) one others = (one, others)
+    let others = logs_are_short lists places h in
+    elim (log_at lists place) as (λ log. SaysShort log → AllByRecursion IsShortText (cons_option log (filter_map (log_at lists) places)))
+    [ None ↦ λ _. others | Some text ↦ λ one. (one, others) ] (says_at lists.source place h)
 
 -- ---- programs
 
@@ -192,11 +161,7 @@ restarted_short p h =
     })
 
 pub marked_short : (m : Mark) (p : Program) → IsShort p → IsShort (marked m p)
-marked_short m p h = by p.run where
-  by : (r : Run) → IsShort (marked_by r m p)
-  by run.Running = h
-  by (run.Stopped why) = h
-  by (run.Ended code) = h
+marked_short m p h = elim p.run as (λ r. IsShort (marked_by r m p)) [ run.Running ↦ h | _ ↦ h ]
 
 pub entered_short : (p : Program) → IsShort p → IsShort (entered p)
 entered_short p h = let d : Debugged = p.machine in with_few p _ h (checked_few d.hart.pc d.hart d.memory d.lists h.few)
@@ -212,11 +177,11 @@ left_short p h = with_few p no_breakpoints h no_breaks
 
 pub listed_short : (c : Command) (list : List Wanted) → Few (λ w. SaysShort w.log) 1024 list → (p : Program) → IsShort p
     → IsShort (with_list c list p)
-listed_short (command.SetBreakpoints arguments) list l p h =
+listed_short (SetBreakpoints arguments) list l p h =
     with_few p _ h
     (record { source = mapped fresh list l; instructions = h.few.instructions; functions = h.few.functions; ids = omega arith })
-listed_short (command.SetFunctionBreakpoints arguments) list l p h =
+listed_short (SetFunctionBreakpoints arguments) list l p h =
     with_few p _ h (record { source = h.few.source; instructions = h.few.instructions; functions = mapped fresh list l; ids = omega arith })
-listed_short (command.SetInstructionBreakpoints arguments) list l p h =
+listed_short (SetInstructionBreakpoints arguments) list l p h =
     with_few p _ h (record { source = h.few.source; instructions = mapped fresh list l; functions = h.few.functions; ids = omega arith })
 listed_short other list l p h = h

@@ -1,8 +1,7 @@
 -- Each message can be read: its texts are UTF-8, and it is written in fewer bytes than a mirror reads.
-use Rattle.session_laws.proofs.Messages.Common.{arith, Beginning, get_or, Happened, HasPath, length, life_of, List, MessagesAreReadable, MessagesAreShort, Reached, Said, TextsAreUtf8, ◌<◌, ◌≤◌}
+use Rattle.session_laws.proofs.Messages.Common.{arith, Beginning, get_or, Happened, HasPath, length, life_of, List, MessagesAreReadable, MessagesAreShort, most_bytes, Reached, Said, TextsAreUtf8, ◌<◌, ◌≤◌}
 use Rattle.replies.specs.Messages.{text_of as text_said}
 use Rattle.session_laws.proofs.Proper.{answers_are_proper}
-use Rattle.text_laws.specs.Lengths.{most_bytes}
 use Rattle.text_laws.proofs.Lengths.{texts_are_bounded}
 use Rattle.session_laws.proofs.Messages.Numbered.{in_range}
 use Rattle.session_laws.proofs.Messages.Sessions.{all_readable}

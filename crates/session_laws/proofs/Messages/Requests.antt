@@ -1,21 +1,5 @@
 -- The requests that come have texts that are UTF-8, and no longer than a body may be.
-use Rattle.session_laws.proofs.Messages.Common.{[], All, All-weaker, AllByRecursion, arith, Command, Err, length, List, map, Ok, Result, SourceBreakpoint, ℕ, ◌++◌, ◌∷◌, ◌≤◌}
-use Rattle.std.proofs.lemmas.Option.{IfSome_then}
-use Rattle.framing.specs.Frames.{AreFrames}
-use Rattle.framing.specs.Reading.{Tail}
-use Rattle.framing.specs.Reading.Tail.{Partial, Faulty}
-use Rattle.framing.specs.Streams.{reading_after}
-use Rattle.framing.proofs.Framing.{reading_is_right}
-use Rattle.protocol.specs.Reading.{incoming_of}
-use Rattle.protocol.specs.declared.command.Command.TheVariants as command
-use Rattle.protocol.specs.declared.request.Incoming.{Incoming}
-use Rattle.protocol.specs.declared.request.Incoming.TheVariants.{Request as IsRequest, Bad as IsBad, Ignored}
-use Rattle.protocol.specs.declared.request.MessageError.{MessageError}
-use Rattle.queues.specs.Arrivals.{asks_in, asks_of}
-use Rattle.queues.specs.declared.pending.Ask.{Ask}
-use Rattle.queues.specs.declared.pending.Ask.TheVariants.{Request, Bad}
-use Rattle.session.specs.Acts.{Now, read_on}
-use Rattle.session.specs.declared.TheConstants.{BODY_LIMIT}
+use Rattle.session_laws.proofs.Messages.Common.{[], All, All-weaker, AllByRecursion, AreFrames, arith, Ask, asks_in, asks_of, Bad, BODY_LIMIT, Command, Faulty, IfSome_then, Incoming, incoming_of, Launch, length, List, map, MessageError, Now, Partial, read_on, reading_after, reading_is_right, Request, Result, SetBreakpoints, SourceBreakpoint, Tail, ℕ, ◌++◌, ◌∷◌, ◌≤◌}
 use Rattle.text_laws.specs.Requests.{AsksWithin, MeansWithin, WritesWithin}
 use Rattle.text_laws.proofs.Requests.{requests_have_texts}
 use Rattle.session_laws.proofs.Messages.Programs.{IsShortText, SaysShort}
@@ -26,8 +10,8 @@ WritesShort one = SaysShort one.log_message
 
 -- a request with such texts; of one that could not be read, there is its name
 abbrev pub IsShortRequest : Command → Type 0
-IsShortRequest (command.Launch arguments) = IsShortText arguments.program
-IsShortRequest (command.SetBreakpoints arguments) = All WritesShort arguments.breakpoints
+IsShortRequest (Launch arguments) = IsShortText arguments.program
+IsShortRequest (SetBreakpoints arguments) = All WritesShort arguments.breakpoints
 IsShortRequest other = Unit {0}
 
 abbrev pub IsShortAsk : Ask → Type 0
@@ -47,18 +31,15 @@ bodies_within limit (Partial rest) piece =
 bodies_within limit (Faulty fault) piece = tt
 
 short_request : (n : ℕ) (c : Command) → n ≤ 1048576 → AsksWithin n c → IsShortRequest c
-short_request n (command.Launch arguments) few h = (h.0, omega (arith, h.1, few))
-short_request n (command.SetBreakpoints arguments) few h =
+short_request n (Launch arguments) few h = (h.0, omega (arith, h.1, few))
+short_request n (SetBreakpoints arguments) few h =
     All-weaker (WritesWithin n) WritesShort
     (λ one within. IfSome_then one.log_message within (λ text t. (t.0, omega (arith, t.1, few)))) arguments.breakpoints h.1
 short_request n other few h = tt
 
 one_more : (n : ℕ) (means : Result Incoming MessageError) (rest : List (Result Incoming MessageError)) → n ≤ 1048576
     → MeansWithin n means → AllByRecursion IsShortAsk (asks_in rest) → AllByRecursion IsShortAsk (asks_in (means ∷ rest))
-one_more n (Ok (IsRequest r)) rest few h others = (short_request n r.command few h, others)
-one_more n (Ok (IsBad seq command refusal)) rest few h others = ((h.0, omega (arith, h.1, few)), others)
-one_more n (Ok Ignored) rest few h others = others
-one_more n (Err fault) rest few h others = tt
+one_more n means rest few h others = grind (arith, short_request)
 
 all_asks : (bodies : List (List ℕ)) → AllByRecursion (λ body. length body ≤ 1048576) bodies → AllByRecursion IsShortAsk (asks_of bodies)
 all_asks [] few = tt

@@ -1,12 +1,8 @@
 -- Plain texts of a length: words of the adapter's own, and numbers.
 --
 -- That a text is plain is a test, so `simp` finds it of one that is joined of others, as `omega` finds its length.
-use Rattle.session_laws.proofs.Messages.Common.{[], and_parts, arith, decimal, digit_glyph, digits_onto, eqb, false, if_keeps, IsUtf8, leb, leb-true, length, List, negsuc, pos, refl, signed_decimal, suc, true, zero, ℕ, ℤ, ◌%◌, ◌&&◌, ◌+◌, ◌/◌, ◌<◌, ◌∷◌, ◌≡◌, ◌≤◌}
-use Rattle.std.proofs.lemmas.Bool.{agree_below_at, and_from}
+use Rattle.session_laws.proofs.Messages.Common.{[], agree_below_at, all_plain, and_from, and_parts, are_plain, arith, decimal, digit_glyph, digits_onto, eqb, false, if_keeps, is_plain_byte, IsUtf8, leb, leb-true, length, List, negsuc, plain_texts_stand, plain_utf8, pos, refl, signed_decimal, suc, true, written_length, zero, ℕ, ℤ, ◌%◌, ◌&&◌, ◌+◌, ◌/◌, ◌<◌, ◌∷◌, ◌≡◌, ◌≤◌}
 use Rattle.std.specs.Fmt.{digits}
-use Rattle.text_laws.specs.Lengths.{written_length}
-use Rattle.text_laws.proofs.Plain.{all_plain, are_plain, is_plain_byte, plain_utf8}
-use Rattle.text_laws.proofs.Sizes.{plain_texts_stand}
 
 -- a text that JSON has as it is, of at most this many bytes
 pub record IsPlainWithin (most : ℕ) (text : List ℕ) : Type 0 where

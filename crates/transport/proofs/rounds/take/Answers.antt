@@ -1,17 +1,19 @@
-use Rattle.transport.proofs.RoundLemmas.{taken, drops, found_ok, found_err}
+use Rattle.transport.proofs.Common.{refl}
+use Rattle.session.specs.declared.event.Applied.TheVariants as applied
+use Rattle.transport.proofs.RoundLemmas.{happened, found_ok, found_err}
 use Rattle.transport.proofs.rounds.take.Goals as goal
 
 pub returns-in-Ok-clause-took : goal.returns-in-Ok-clause-took
 returns-in-Ok-clause-took g c =
     rw c.taken.ensures.ok
-    (taken c.args.session.now c.args.piece.now c.recv.result c.recv.new.self c.recv.ensures.stands (found_ok c.recv.result _ c.in-Ok.is))
+    (λ s st. happened (λ _. applied.Recv) c.recv.result s (λ x. refl) c.recv.ensures.stands (found_ok c.in-Ok.is) st)
 
 pub returns-in-NoMemory-clause-took : goal.returns-in-NoMemory-clause-took
 returns-in-NoMemory-clause-took g c =
-    drops c.recv.new.self c.args.session.now c.leave.new.session c.args.piece.now c.leave.result c.leave.ensures.end c.in-Err.ensures.err c.leave.ensures.dropped
+    rw c.leave.ensures.end (λ s st. (refl, c.leave.ensures.dropped s (rw c.in-Err.ensures.err st)))
 
 pub returns-in_default-clause-took : goal.returns-in_default-clause-took
 returns-in_default-clause-took g c =
     rw c.taken-in_default.ensures.ok
-    (taken c.args.session.now c.args.piece.now c.recv.result c.recv.new.self c.recv.ensures.stands
-    (found_err c.recv.result c.in-Err.error c.in-Err.is c.in_default.not-NoMemory))
+    (λ s st. happened (λ _. applied.Recv) c.recv.result s (λ x. refl) c.recv.ensures.stands
+    (found_err c.in-Err.is c.in_default.not-NoMemory) st)

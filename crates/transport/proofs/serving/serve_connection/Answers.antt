@@ -1,15 +1,22 @@
-use Rattle.transport.proofs.ServingLemmas.{is_refused, is_connection, is_cut, leaving, stays}
+use Rattle.transport.proofs.Common.{ap, Err, refl, ◌∙◌}
+use Rattle.transport.specs.Serving.{Refused}
+use Rattle.transport.proofs.ServingLemmas.{ends_idle, refuses, is_connection, is_cut}
 use Rattle.transport.proofs.serving.serve_connection.Goals as goal
 
 pub returns-in_default-clause-outcome : goal.returns-in_default-clause-outcome
 returns-in_default-clause-outcome g c old new m =
-    is_refused _ c.args.left old new _ c.args.session.now c.connect.new.self c.connect.new.self c.connect.result c.in_default.field-0 c.in_default.is c.connect.ensures.takes_none c.connect.ensures.stands c.in_default.ensures.err m
+    rw c.in_default.ensures.err
+    (ends_idle (Refused _) (λ s. (refl, refl, λ st. st)) m
+    (λ s st taken. refuses c.in_default.field-0 (λ z. c.connect.ensures.takes_none (c.in_default.is ∙ ap Err z))
+    (rw c.in_default.is at c.connect.ensures.stands) s st))
 
 pub returns-in-Closed-clause-outcome : goal.returns-in-Closed-clause-outcome
-returns-in-Closed-clause-outcome g c old new m =
-    is_connection _ _ _ c.args.left old new _ _ c.args.session.now c.connect.new.self c.drive_in-driven.new.session c.connect.result c.in-Ok._number c.drive_in-driven.result.end c.drive_in-driven.result.turns c.in-Ok.is c.connect.ensures.stands c.drive_in-driven.ensures.drove (leaving c.drive_in-driven.result.end c.in-Closed.is) c.tell.ensures m
+returns-in-Closed-clause-outcome g c old new m s st =
+    is_connection (rw c.in-Ok.is at c.connect.ensures.stands) c.drive_in-driven.ensures.drove c.tell.ensures m s st
+    c.in-Closed.is
 
 pub returns-in_default-end-clause-outcome : goal.returns-in_default-end-clause-outcome
 returns-in_default-end-clause-outcome g c old new m =
     rw c.leave.ensures.end
-    (is_cut _ _ _ _ c.args.left old new _ _ c.args.session.now c.connect.new.self c.drive_in-driven.new.session c.leave.new.session c.connect.result c.in-Ok._number c.drive_in-driven.result.end c.drive_in-driven.result.turns c.in-Ok.is c.connect.ensures.stands c.drive_in-driven.ensures.drove (stays c.drive_in-driven.result.end c.in_default-end.not-Closed c.in_default-end.not-Fault) c.leave.ensures.dropped c.tell.ensures c.leave.ensures.told m)
+    (λ s st. is_cut (rw c.in-Ok.is at c.connect.ensures.stands) c.drive_in-driven.ensures.drove c.tell.ensures m s st
+    c.in_default-end.not-Closed c.in_default-end.not-Fault c.leave.ensures.dropped c.leave.ensures.told)

@@ -1,5 +1,5 @@
 use Rattle.debuggee.proofs.Common.{Advances, ap, GoesQuietly, None, Program, Some, subst, sym, ◌+◌, ◌∙◌, ◌≡◌}
-use Rattle.debuggee.specs.declared.program.Advanced.TheVariants.{Owes, Meets, Lacks}
+use Rattle.debuggee.specs.declared.program.Advanced.TheVariants.{HasOutput, Stops, OutOfMemory}
 use Rattle.debuggee.proofs.Advancing.{lacking_names_none, run_lacks, run_meets, run_owes, run_spends, spent_names_none}
 use Rattle.debuggee.proofs.Loading.{still_loadable}
 use Rattle.debuggee.proofs.program.Program.advance.Goals as goal
@@ -56,7 +56,7 @@ returns-then-stays c =
     let none = ap (λ (x : Program). x.owed) c.self.view_is ∙ c.requires.owed in
     let due = ap (λ (x : Program). x.machine.check_due) c.self.view_is ∙ c.requires.due in
     let stays = sym c.stays.ensures ∙ c.if-stays.true in
-    subst (λ (x : Program). Advances c.args.most x (Meets c.run-ran.result.went c.in-Ticked.tick)
+    subst (λ (x : Program). Advances c.args.most x (Stops c.run-ran.result.went c.in-Ticked.tick)
     (record p { machine = c.run-ran.new.self })) c.self.view_is
     (run_meets c.args.most p c.run-ran.result c.in-Ticked.tick c.run-ran.new.self none
     (c.self.invariant.0 none) due c.in-Ticked.is stays c.run-ran.ensures.run).0
@@ -74,7 +74,7 @@ returns-else-stays c =
     } in
     let none = ap (λ (x : Program). x.owed) c.self.view_is ∙ c.requires.owed in
     let goes = sym c.stays.ensures ∙ c.if-stays.false in
-    subst (λ (x : Program). Advances c.args.most x (Owes (c.run-ran.result.went + 1))
+    subst (λ (x : Program). Advances c.args.most x (HasOutput (c.run-ran.result.went + 1))
     (record p { machine = c.run-ran.new.self; owed = Some c.in-Ticked.tick })) c.self.view_is
     (run_owes c.args.most p c.run-ran.result c.in-Ticked.tick c.run-ran.new.self none c.in-Ticked.is goes c.run-ran.ensures.run)
 
@@ -103,5 +103,5 @@ returns-in-NoMemory c =
       owed = c.self.inside.owed;
     } in
     let none = ap (λ (x : Program). x.owed) c.self.view_is ∙ c.requires.owed in
-    subst (λ (x : Program). Advances c.args.most x (Lacks c.run-ran.result.went) (record p { machine = c.run-ran.new.self })) c.self.view_is
+    subst (λ (x : Program). Advances c.args.most x (OutOfMemory c.run-ran.result.went) (record p { machine = c.run-ran.new.self })) c.self.view_is
     (run_lacks c.args.most p c.run-ran.result c.run-ran.new.self none c.in-NoMemory.is c.run-ran.ensures.run)

@@ -1,4 +1,3 @@
-use Rattle.session.proofs.Happening.{happens_to}
-
 pub returns-clause-stands : Rattle.session.proofs.session.Session.recv.Goals.returns-clause-stands
-returns-clause-stands c = happens_to c.self.inside.state c.args.self.now _ _ _ c.self.view_is c.recv.ensures.kept
+returns-clause-stands c =
+    Rattle.session.proofs.Happening.happens_to c.self.inside.state c.args.self.now _ _ _ c.self.view_is c.recv.ensures.kept

@@ -1,2 +1,8 @@
+use Rattle.transport.proofs.Common.{[], refl}
+
 pub returns : Rattle.transport.proofs.inbox.Inbox.new.Goals.returns
-returns c = Rattle.transport.proofs.ServerLemmas.begins_reading _ c.new.ensures.kept
+returns c = rw c.new.ensures.kept (record {
+  fed = [];
+  has_heard = record { taken = []; limit = refl; stands = Rattle.framing.proofs.Pasts.nothing_stands _; given = refl };
+  read = refl;
+})

@@ -10,7 +10,8 @@ returns-clause-polled c heard s =
       unframer = c.self.inside.unframer;
       pending = take c.self.inside.pending c.self.inside.room.items;
     }) heard c.take_message-taken.result c.self.inside.is_faulty
-    c.take_message-taken.new.unframer _ none none c.take_message-taken.ensures.tail c.self.invariant.1 c.take_message-taken.ensures.takes c.take_message-taken.ensures.all
+    c.take_message-taken.new.unframer _ none none c.take_message-taken.ensures.tail c.self.invariant.1
+    c.take_message-taken.ensures.takes c.take_message-taken.ensures.all
     (subst (λ o. HasRead o heard) (sym c.self.view_is) s))
 
 pub returns-clause-emptied : goal.returns-clause-emptied

@@ -1,6 +1,6 @@
 use Rattle.std.specs.Prelude.{string_bytes}
 use Rattle.execution.proofs.Joining.{lacked, none_made, on_err, spent, ticked}
-use Rattle.execution.proofs.slices.stretch.Goals as goal
+use Rattle.execution.proofs.slices.run_part.Goals as goal
 
 pub returns-in_err-reserve-clause-err : goal.returns-in_err-reserve-clause-err
 returns-in_err-reserve-clause-err c =

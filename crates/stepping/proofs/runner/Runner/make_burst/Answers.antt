@@ -2,7 +2,7 @@ use Rattle.stepping.proofs.Common.{arith, Debugged, subst, sym, ◌+◌, ◌^◌
 use Rattle.stepping.specs.contracts.runner.Runner as runner
 use Rattle.stepping.proofs.Bursting.{arrives, lists_none, lists_some}
 use Rattle.stepping.proofs.Counting.{arrives_counted, not_deeper, still_sound}
-use Rattle.stepping.proofs.runner.Runner.advance.Goals as goal
+use Rattle.stepping.proofs.runner.Runner.make_burst.Goals as goal
 
 pub retire-burst-requires : goal.retire-burst-requires
 retire-burst-requires c =

@@ -1,6 +1,6 @@
 use Rattle.breakpoints.proofs.Common.{ap, Lists, looked, standing_in, sym, ◌∙◌}
 use Rattle.breakpoints.proofs.Lists.{no_look, none_standing}
-use Rattle.breakpoints.proofs.breaks.Breaks.look.Goals as goal
+use Rattle.breakpoints.proofs.breaks.Breaks.stand_at.Goals as goal
 
 pub returns-then-not-has-clause-lists : goal.returns-then-not-has-clause-lists
 returns-then-not-has-clause-lists c =
