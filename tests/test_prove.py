@@ -47,12 +47,11 @@ for it in os.environ["BELOW_" + name].split():
     made, text = "../%s/out/rlib/stamp" % it, "../%s/src/lib.rt" % it
     if os.path.getmtime(made) < os.path.getmtime(text):
         sys.exit("the out of %s is older than its text" % it)
-jobs = words[2:3]
-if words != (["run", "--jobs", *jobs, "--", "--version"] if name == "rvdap" else ["lib", "--jobs", *jobs]):
+if words != (["run", "--jobs", "2", "--", "--version"] if name == "rvdap" else ["lib", "--jobs", "2"]):
     sys.exit("the words are %s" % words)
 note("begin")
-with open(os.environ["NOTES"] + ".jobs", "a") as file:
-    file.write("%s %s\\n" % (name, *jobs))
+with open(os.environ["NOTES"] + ".nice", "a") as file:
+    file.write("%s %d\\n" % (name, os.nice(0)))
 if os.path.exists("out/incremental/kept"):
     note("kept")
 make("out/incremental/kept", name)
@@ -145,11 +144,11 @@ def two_side_by_side():
         expect([word for word, _ in between], ["begin", "begin", "end", "end"], "b and c, between a and d")
 
 
-def the_crate_that_holds_up_most_gets_all_processors():
+def the_others_give_way_to_the_crate_that_holds_up_most():
     with repository() as top:
         proved(top)
-        said = text_of(top, "../notes.jobs").split()
-        expect(dict(zip(said[::2], said[1::2])), {"a": "2", "b": "2", "c": "1", "d": "2", "rvdap": "2"}, "the jobs of each")
+        said = text_of(top, "../notes.nice").split()
+        expect([name for name, nice in zip(said[::2], said[1::2]) if int(nice) > os.nice(0)], ["c"], "those that give way")
 
 
 def a_line_for_each_crate_and_a_log():
@@ -305,7 +304,7 @@ def the_program_stands_on_its_crates():
 
 def checks():
     return [("tools/prove: " + check.__name__.replace("_", " "), check) for check in (
-        each_crate_after_those_below_it, two_side_by_side, the_crate_that_holds_up_most_gets_all_processors, a_line_for_each_crate_and_a_log,
+        each_crate_after_those_below_it, two_side_by_side, the_others_give_way_to_the_crate_that_holds_up_most, a_line_for_each_crate_and_a_log,
         a_crate_of_which_nothing_is_said_is_unchanged, a_line_that_moves_on_a_terminal, a_failure_shows_its_last_lines,
         what_is_proved_stays_so, an_interrupt_leaves_what_is_proved, one_at_a_time_in_a_checkout,
         as_many_as_the_machine_has_room_for, a_word_that_is_none_is_refused, another_kit_is_told, the_documents_name_one_kit,
