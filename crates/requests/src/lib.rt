@@ -7,6 +7,8 @@
 mod arguments;
 mod entry;
 mod names;
+mod ranges;
 mod writing;
 
+pub use ranges::is_in_range;
 pub use writing::write_request;
