@@ -1,4 +1,4 @@
-//! Plays `scripts`.
+//! Plays `scripts`, and `prompt` by `typed`.
 //!
 //! - `script BYTES`: what the script that these bytes are lists, and what it watches; or its fault.
 //! - `recorded BYTES`: the same of a recording, which may watch nothing.
@@ -6,11 +6,14 @@
 //! - `record BYTES ROOM KEPT`: tells the events of a recording to a recorder, and finishes for connection 1. A turn with a file is given the
 //!   file's path as its text, and KEPT texts are kept: each with its number, then what a script with room for ROOM bytes got, and whether it is
 //!   `whole`.
+//! - `typed BYTES`: what a line that somebody types asks for, or its first error.
 //! - `no-line`: of some events, whether no line says them.
 #![tactic(auto)]
 
+mod prompting;
 mod recorders;
 
+use prompting::typed;
 use recorders::{Script, Words, told};
 use scripts::{
     Cut, ScriptFault, Step, StepRef, Watch, read_recorded, read_script, step_line, watch_line,
@@ -42,6 +45,8 @@ impl Player for Reader {
                 let (room, kept) = (parsed::<u32>(room)?, parsed::<u32>(kept)?);
                 record(alloc, &bytes_of(alloc, bytes)?, room as usize, kept)
             }
+            ["typed", bytes] => typed(alloc, &bytes_of(alloc, bytes)?),
+            ["typed"] => typed(alloc, b""),
             ["no-line"] => no_line(alloc),
             _ => Err(Fault::NoCommand),
         }

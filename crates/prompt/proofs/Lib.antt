@@ -1,0 +1,4 @@
+pub mod Parting
+pub mod Separating
+pub mod Ink
+pub mod Whole
