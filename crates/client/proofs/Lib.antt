@@ -1,0 +1,4 @@
+pub mod Inputs
+pub mod Later
+pub mod Following
+pub mod Bodies
