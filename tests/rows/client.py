@@ -44,5 +44,9 @@ ROWS = [
         ("begin 65536", "ok"), client("last", "0"), client("turn", "nothing"), client("take", "0"), *asks(5, "initialize", "initialize", "done", adapterID="rvdap"),
         send(5, "threads", answer="no number for a request"), send(4, "threads", answer="no number for a request"),
         send(2147483647, "threads"), client("last", "2147483647"), client("turn", "answered"), client("take", "1 threads done")], RULES),
+    # The number of a request that the session had no memory for is used up.
+    Row("a request and its answer", [
+        ("begin 65536", "ok"), send(1, "initialize", adapterID="rvdap"), client("turn", "answered"), client("take", "1 initialize done")], RULES,
+        refused=True, otherwise=[["ok", "NoMemory", "no number for a request", "nothing", "0"]]),
     Row("no memory of another size", [("begin 65537", "bad memory size"), ("begin 4096", "ok"), client("run", "Unknown")], RULES),
 ]

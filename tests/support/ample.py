@@ -16,7 +16,7 @@ ROWS = {
     'Program::new, restart of debuggee': 'session_runs: "the greatest program", "a restart loads the program anew"',
     'Program::set_source, set_instructions, set_functions of debuggee': 'session_functions: "1,024 breakpoints of three kinds"',
     'Mirror::sent, feed': 'mirror: "a body may be long", "a request that found no memory can be told again", "a piece that found no memory can be fed again"',
-    'Client::send, turn, slice, take': 'client: "what is told is known, and forgotten once the program moves"',
+    'Client::send, turn, slice, take': 'client: "what is told is known, and forgotten once the program moves", "a request and its answer"',
     'watch, queued, watch_script, watch_steps': 'tests/test_watch.py and tests/test_walks.py, by rvdap watch and by test_watch_events',
     'step_line, watch_line, read_recorded, replay': 'tests/test_record.py',
     'read_script': 'scripts: "a script lists each kind of event", "the greatest numbers"',
