@@ -47,7 +47,8 @@ for it in os.environ["BELOW_" + name].split():
     made, text = "../%s/out/rlib/stamp" % it, "../%s/src/lib.rt" % it
     if os.path.getmtime(made) < os.path.getmtime(text):
         sys.exit("the out of %s is older than its text" % it)
-if words != (["run", "--jobs", "2", "--", "--version"] if name == "rvdap" else ["lib", "--jobs", "2"]):
+jobs = words[2:3]
+if words != (["run", "--jobs", *jobs, "--", "--version"] if name == "rvdap" else ["lib", "--jobs", *jobs]):
     sys.exit("the words are %s" % words)
 note("begin")
 with open(os.environ["NOTES"] + ".nice", "a") as file:
