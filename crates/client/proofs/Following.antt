@@ -49,7 +49,7 @@ use Rattle.session_laws.specs.Calls.{Adds, AddsDone}
 use Rattle.session_laws.specs.Editors.{AreTold, IsTold, fed_in, first_told, sent_in}
 use Rattle.session_laws.specs.Known.{AllKnown, first_asked}
 use Rattle.session_laws.specs.Messages.{HasPath, IsPath}
-use Rattle.client.specs.Following.{AreUpTo, Calls, Follows, GoesOn, IsNext, IsPiece, Kept, KnowsWhatWasSo, Pushes, Sends, WereTold, life, sending, taking}
+use Rattle.client.specs.Following.{AreUpTo, Calls, Follows, GoesOn, IsNext, IsPiece, Kept, KnowsWhatWasSo, Pushes, Receives, Sends, WereTold, life, sending, taking}
 use Rattle.client.specs.declared.error.SendError.{SendError}
 use Rattle.client.specs.declared.error.SendError.TheVariants as send
 use Rattle.client.proofs.Inputs.{editor_later, editor_next, fed_piece, fed_request, first_next, sent_piece, sent_request, told_next, up_to_next}
@@ -138,11 +138,14 @@ adds_later s e (Err why) more so is = whole_later s e more so is
 
 pub calls_follow : (old : Kept) (k : Session) (e : Event) (result : Result Applied EventError) → Goes e → Happens old.session e result k
     → Calls e result old (record old { session = k })
-calls_follow old k e result so h = λ from happened f.
-    let s = Reached from happened in
-    let l = calls_lead s old.session k e result f.stands h in
-    let on = leads_on from happened l.more in
-    (l.more, (l.adds, follows_later from happened l.more old k f (subst (Later s) on (adds_later s e result l.more so l.adds)) (subst (Stands k) on l.stands)))
+calls_follow old k e result so h = (
+  h,
+  λ from happened f.
+      let s = Reached from happened in
+      let l = calls_lead s old.session k e result f.stands h in
+      let on = leads_on from happened l.more in
+      (l.more, (l.adds, follows_later from happened l.more old k f (subst (Later s) on (adds_later s e result l.more so l.adds)) (subst (Stands k) on l.stands))),
+)
 
 -- ---- a request is told
 
@@ -381,7 +384,10 @@ module _ (inner old : Kept) (is : inner ≡ old) where
 
   pub calls_inside : (k : Session) (e : Event) (result : Result Applied EventError) → Goes e → Happens inner.session e result k
       → Calls e result old (record inner { session = k })
-  calls_inside k e result so h = λ from happened f. calls_follow inner k e result so h from happened (inside from happened f)
+  calls_inside k e result so h = (
+    subst (λ (c : Kept). Happens c.session e result k) is h,
+    λ from happened f. (calls_follow inner k e result so h).1 from happened (inside from happened f),
+  )
 
   pub feeds_inside : (m : Mirrored) (k : Session) (piece counted : List ℕ) (result : Result (Unit {0}) EventError)
       → piece ≡ inner.session.waiting → counted ≡ inner.session.waiting
@@ -418,7 +424,7 @@ module _ (inner old : Kept) (is : inner ≡ old) where
           let on = leads_on from happened (Whole (event.Recv piece) ∷ []) in
           comes from happened (record inner { mirror = m; last = r.seq }) r piece k told piece_is (first_is from happened inner r above m tells g)
           (subst (λ (t : Past). Accepted s t piece) on (accepted_by s.now.link piece s ended.0)) (subst (Stands k) on ended.1)),
-      refl,
+      (refl, subst (λ (c : Kept). Receives piece c (Ok applied.Recv) (record inner { session = k; mirror = m; last = r.seq })) is h),
     )
     pushes_inside (Err why) h same = (
       λ from happened f.
@@ -427,15 +433,23 @@ module _ (inner old : Kept) (is : inner ≡ old) where
           let told = request_told from happened inner r above m tells g in
           subst (λ (l : List Happened). Follows from l (record inner { session = k; mirror = m; last = r.seq })) (sym (append-nil happened))
           (subst (λ (x : Session). Follows from happened (record inner { session = x; mirror = m; last = r.seq })) (sym same) told)),
-      same ∙ ap (λ (c : Kept). c.session) is,
+      (
+        same ∙ ap (λ (c : Kept). c.session) is,
+        subst (λ (c : Kept). Receives piece c (Err why) (record inner { session = k; mirror = m; last = r.seq })) is h,
+      ),
     )
 
 pub sends_by : (r : Request) (piece : List ℕ) (old new : Kept) (result : Result (Unit {0}) SendError) → IsPiece r piece
     → Pushes r piece old result new → Sends r old result new
-sends_by r piece old new (Ok done) is h = (subst (λ (l : List ℕ). GoesOn (Whole (event.Recv l) ∷ []) old new) is.is h.0, h.1)
+sends_by r piece old new (Ok done) is h = (
+  subst (λ (l : List ℕ). GoesOn (Whole (event.Recv l) ∷ []) old new) is.is h.0,
+  (h.1.0, subst (λ (l : List ℕ). Receives l old (Ok applied.Recv) new) is.is h.1.1),
+)
+sends_by r piece old new (Err (send.Session why)) is h =
+    (h.0, (h.1.0, subst (λ (l : List ℕ). Receives l old (Err why) new) is.is h.1.1))
+sends_by r piece old new (Err send.NoMemory) is h = h
 sends_by r piece old new (Err send.Number) is h = absurd h
 sends_by r piece old new (Err send.Range) is h = absurd h
-sends_by r piece old new (Err why) is h = h
 
 -- ---- the beginning
 

@@ -15,12 +15,13 @@ use Rattle.protocol.specs.declared.request.Incoming.TheVariants.{Request as IsRe
 use Rattle.protocol.specs.declared.request.Request.{Request}
 use Rattle.queues.specs.declared.pending.Ask.{Ask}
 use Rattle.requests.specs.Requests.{is_in_range, is_natural, request_text}
-use Rattle.session.specs.Kept.{Kept as Session, Stands}
+use Rattle.session.specs.Kept.{Happens, Kept as Session, Stands}
 use Rattle.session.specs.Reached.{Happened, Reached, Whole}
 use Rattle.session.specs.Sessions.{Beginning, Life, life_of}
 use Rattle.session.specs.declared.config.ConfigError.{ConfigError}
 use Rattle.session.specs.declared.config.ConfigError.TheVariants.{BadMemorySize}
 use Rattle.session.specs.declared.event.Applied.{Applied}
+use Rattle.session.specs.declared.event.Applied.TheVariants as applied
 use Rattle.session.specs.declared.event.Event.{Event}
 use Rattle.session.specs.declared.event.Event.TheVariants as event
 use Rattle.session.specs.declared.event.EventError.{EventError}
@@ -76,10 +77,10 @@ KnowsWhatWasSo = (from : Beginning) (happened : List Happened) (c : Kept) → Fo
 abbrev pub GoesOn : List Happened → Kept → Kept → Type 0
 GoesOn more old new = (from : Beginning) (happened : List Happened) → Follows from happened old → Follows from (happened ++ more) new
 
--- whatever it followed, it follows what a call with this answer leads to
+-- the session gave this answer, and whatever the client followed, it follows what the call leads to
 abbrev pub Calls : Event → Result Applied EventError → Kept → Kept → Type 0
-Calls e result old new = (from : Beginning) (happened : List Happened) → Follows from happened old
-    → (more : List Happened) × (Adds (Reached from happened) e result more × Follows from (happened ++ more) new)
+Calls e result old new = Happens old.session e result new.session × ((from : Beginning) (happened : List Happened) → Follows from happened old
+    → (more : List Happened) × (Adds (Reached from happened) e result more × Follows from (happened ++ more) new))
 
 -- A client begins where memory can have that size, with a connection.
 abbrev pub Begins : ℕ → Result Kept ConfigError → Type 0
@@ -106,19 +107,26 @@ abbrev pub sending : Result (Unit {0}) EventError → Result (Unit {0}) SendErro
 sending (Ok done) = Ok done
 sending (Err why) = Err (send.Session why)
 
+-- this is the session's answer to a piece
+abbrev pub Receives : List ℕ → Kept → Result Applied EventError → Kept → Type 0
+Receives piece old answer new = Happens old.session (event.Recv piece) answer new.session
+
 -- the mirror is told a request, and the session gets its frame
 abbrev pub Pushes : Request → List ℕ → Kept → Result (Unit {0}) SendError → Kept → Type 0
-Pushes r piece old (Ok done) new = GoesOn (Whole (event.Recv piece) ∷ []) old new × (new.last ≡ r.seq)
-Pushes r piece old (Err send.Number) new = ⊥
-Pushes r piece old (Err send.Range) new = ⊥
-Pushes r piece old (Err why) new = GoesOn [] old new × (new.session ≡ old.session)
+Pushes r piece old (Ok done) new =
+    GoesOn (Whole (event.Recv piece) ∷ []) old new × ((new.last ≡ r.seq) × Receives piece old (Ok applied.Recv) new)
+Pushes r piece old (Err (send.Session why)) new = GoesOn [] old new × ((new.session ≡ old.session) × Receives piece old (Err why) new)
+Pushes r piece old (Err send.NoMemory) new = GoesOn [] old new × (new.session ≡ old.session)
+Pushes r piece old (Err why) new = ⊥
 
 -- A request is sent, or it is not.
 abbrev pub Sends : Request → Kept → Result (Unit {0}) SendError → Kept → Type 0
-Sends r old (Ok done) new = GoesOn (Whole (event.Recv (piece_of r)) ∷ []) old new × (new.last ≡ r.seq)
+Sends r old (Ok done) new =
+    GoesOn (Whole (event.Recv (piece_of r)) ∷ []) old new × ((new.last ≡ r.seq) × Receives (piece_of r) old (Ok applied.Recv) new)
 Sends r old (Err send.Number) new = (nat_le r.seq old.last || nat_lt 2147483647 r.seq ≡ true) × (new ≡ old)
 Sends r old (Err send.Range) new = (is_in_range r.command ≡ false) × (new ≡ old)
-Sends r old (Err why) new = GoesOn [] old new × (new.session ≡ old.session)
+Sends r old (Err (send.Session why)) new = GoesOn [] old new × ((new.session ≡ old.session) × Receives (piece_of r) old (Err why) new)
+Sends r old (Err send.NoMemory) new = GoesOn [] old new × (new.session ≡ old.session)
 
 -- the bytes that wait are taken
 abbrev pub taking : Kept → List Happened

@@ -135,7 +135,7 @@ impl Client {
         self.session.pending()
     }
 
-    /// Takes the messages that wait: the mirror is fed them, and they are answered in order. `Err`: no memory was left, and they wait.
+    /// Takes the messages that wait, in order, and feeds them to the mirror. `Err`: no memory was left, and they still wait.
     pub fn take(&mut self) -> Result<Vec<Message>, AllocError>
         ensures messages { IfOk result (λ m. m.items ≡ messages_so_far self.old.session.waiting) }
         ensures goes { spec.Takes self.old result self.new }
