@@ -1,19 +1,16 @@
 -- Back, and forth again.
-use Rattle.history_laws.proofs.Common.{[], ap, arith, back, back_of, BackAndForthAgain, Beginning, Course, course_of, Debugged, EndsARun, false, gone_back, Happened, IfSome, Instr, IsMade, IsReachedAgain, IsUndone, LeadTo, length, List, MakesSaying, move_of, moved, moved_as, Moves, moves_equal, MovesAreMade, MovesAreUndone, MovesSaying, MovesTo, next_tick, None, Ok, one_move, Option, Position, position_of, printed_by, Program, Reached, refl, Session, settled, Some, stays, Stepped, subst, suc, sym, take, the_tick, Tick, tick_of, ticks_lead, true, zero, ℕ, ◌∙◌, ◌∷◌, ◌≡◌, ◌≤◌}
+use Rattle.history_laws.proofs.Common.{[], ap, arith, back, BackAndForthAgain, Beginning, Course, Debugged, EndsARun, false, goes, gone_back, Happened, IfSome, Instr, IsMade, IsMove, IsReached, IsUndone, LeadTo, length, List, machine_of, MakesSaying, move_of, moved, moved_as, Moves, moves_equal, MovesAreMade, MovesAreUndone, MovesSaying, MovesTo, next_tick, None, Ok, one_tick, Option, Position, position_of, printed_by, Program, Reached, refl, same_moves, Session, Some, stays, Stepped, subst, suc, sym, the_tick, Tick, tick_of, ticks_lead, zero, ℕ, ◌∙◌, ◌∷◌, ◌≡◌, ◌≤◌}
 use Rattle.history_laws.proofs.Recorded.{every_past_is_a_run}
-use Rattle.history_laws.proofs.Ticking.{back_course}
-use Rattle.rv32i.specs.Machine.{Effect, machine_of}
-use Rattle.rv32i.specs.declared.stepped.Stepped.TheVariants as stepped
+use Rattle.history_laws.proofs.Ticking.{settled_past, undoes}
+use Rattle.std.proofs.lemmas.Option.{IfSome_then}
 
 -- ---- one answer
 
-answers_equal : (b x y : Position) (p : MovesTo b x) (q : MovesTo b y) → p.answer ≡ q.answer
-answers_equal b x y p q =
-    let m = machine_of b.hart b.memory in
-    let left : Effect = record { answer = Ok p.answer; machine = machine_of x.hart x.memory } in
-    let right : Effect = record { answer = Ok q.answer; machine = machine_of y.hart y.memory } in
-    let both : Ok p.answer ≡ Ok q.answer = ap (λ (e : Effect). e.answer) (one_move m left right p.moved q.moved) in
-    cc
+-- a machine that moves to a position answers as its move does
+pub answers_equal : (b x y : Position) (s : Stepped) (p : MovesTo b x)
+    → IsMove (machine_of b.hart b.memory) (record { answer = Ok s; machine = machine_of y.hart y.memory }) → p.answer ≡ s
+answers_equal b x y s p moved =
+    (same_moves (machine_of b.hart b.memory) p.answer s x.hart y.hart x.memory y.memory p.moved moved).stepped
 
 -- ---- many moves
 
@@ -22,70 +19,50 @@ back_first : (k : ℕ) (b : Position) (past : List Position) (now : Position)
 back_first zero b past now = refl
 back_first (suc k) b past now = ap gone_back (back_first k b past now)
 
--- there are such moves
-record Made (k : ℕ) (there here : Position) : Type 0 where
-  answers : List Stepped
-  many : length answers ≡ k
-  makes : MakesSaying answers there here
+-- there are no moves from here
+none_more : (now other : Position) (others : List Stepped) → length others ≡ 0 → MakesSaying others now other
+    → (other ≡ now) × (others ≡ [])
+none_more now other [] long o = (o, refl)
+none_more now other (said ∷ others) long o = absurd (omega (arith, long))
 
-makes_on : (k : ℕ) (past : List Position) (now : Position) → LeadTo past now → k ≤ length past
-    → Made k (back k (record { now = now; past = past })).now now
-makes_on zero past now h some = record { answers = []; many = refl; makes = refl }
-makes_on (suc k) [] now h some = absurd (omega (arith, some))
-makes_on (suc k) (b ∷ past) now h some =
-    let before = makes_on k past b h.1 (omega (arith, some)) in
-    let many = before.many in
-    subst (λ (c : Course). Made (suc k) c.now now) (sym (back_first k b past now))
-    (record { answers = h.0.answer ∷ before.answers; many = omega (arith, many); makes = (b, (before.makes, (h.0, refl))) })
+-- one move more
+one_more : (k : ℕ) (there b now : Position) → MovesTo b now → IsReached k there b → IsReached (suc k) there now
+one_more k there b now move r = record {
+  answers = move.answer ∷ r.answers;
+  many = let many = r.many in omega (arith, many);
+  makes = (b, (r.makes, (move, refl)));
+  unique = unique;
+} where
+  unique : (others : List Stepped) (other : Position) → length others ≡ suc k → MakesSaying others there other
+      → (other ≡ now) × (others ≡ move.answer ∷ r.answers)
+  unique [] other long o = absurd (omega (arith, long))
+  unique (said ∷ others) other long o =
+      let before = r.unique others o.0 (omega (arith, long)) o.1.0 in
+      let last = subst (λ (x : Position). MovesSaying said x other) before.0 o.1.1 in
+      let same : said ≡ move.answer = sym last.1 ∙ answers_equal b other now move.answer last.0 move.moved in
+      (moves_equal b other now last.0 move, λ j. same j ∷ before.1 j)
 
--- and no others
-one_way : (answers others : List Stepped) (there here other : Position) → length others ≡ length answers
-    → MakesSaying answers there here → MakesSaying others there other → (other ≡ here) × (others ≡ answers)
-one_way [] [] there here other e m o = (o ∙ sym m, refl)
-one_way [] (answer ∷ others) there here other e m o = absurd (omega (arith, e))
-one_way (answer ∷ answers) [] there here other e m o = absurd (omega (arith, e))
-one_way (answer ∷ answers) (said ∷ others) there here other e m o =
-    let before = one_way answers others there m.0 o.0 (omega (arith, e)) m.1.0 o.1.0 in
-    let move : MovesSaying said m.0 other = subst (λ (x : Position). MovesSaying said x other) before.0 o.1.1 in
-    let same : said ≡ answer = sym move.1 ∙ answers_equal m.0 other here move.0 m.1.1.0 ∙ m.1.1.1 in
-    (moves_equal m.0 other here move.0 m.1.1.0, λ j. same j ∷ before.1 j)
-
-reached_again : (d : Debugged) → EndsARun d → IsReachedAgain d
-reached_again d h k some =
-    let made = makes_on k d.past (position_of d) h.leads some in
-    record {
-      answers = made.answers;
-      many = made.many;
-      makes = made.makes;
-      unique = λ others other long o.
-          one_way made.answers others (back k (course_of d)).now (position_of d) other (long ∙ sym made.many) made.makes o;
-    }
-
-if_run : (P : Debugged → Type 0) (program : Option Program) → ((d : Debugged) → EndsARun d → P d)
-    → IfSome program (λ p. EndsARun p.machine) → IfSome program (λ p. P p.machine)
-if_run P None so h = tt
-if_run P (Some p) so h = so p.machine h
+reached : (k : ℕ) (past : List Position) (now : Position) → LeadTo past now → k ≤ length past
+    → IsReached k (back k (record { now = now; past = past })).now now
+reached zero past now h some =
+    record { answers = []; many = refl; makes = refl; unique = λ others other long o. none_more now other others long o }
+reached (suc k) [] now h some = absurd (omega (arith, some))
+reached (suc k) (b ∷ past) now h some =
+    subst (λ (c : Course). IsReached (suc k) c.now now) (sym (back_first k b past now))
+    (one_more k _ b now h.0 (reached k past b h.1 (omega (arith, some))))
 
 pub back_and_forth_again : (from : Beginning) (events : List Happened) → BackAndForthAgain (Reached from events)
 back_and_forth_again from events =
-    if_run IsReachedAgain (Reached from events).now.debuggee.program reached_again (every_past_is_a_run from events)
+    IfSome_then (Reached from events).now.debuggee.program (every_past_is_a_run from events)
+    (λ p h k some. reached k p.machine.past (position_of p.machine) h.leads some)
 
 -- ---- a move of the program
 
 printed_so : (s : Stepped) (instr : Option Instr) (pc : ℕ) (d : Debugged) → printed_by s ≡ (tick_of s instr pc d).printed
-printed_so stepped.Retired instr pc d = refl
-printed_so _ instr pc d = refl
+printed_so s instr pc d = grind arith
 
-pub recorded_so : (s : Stepped) (instr : Option Instr) (before after : Debugged)
-    → stays (tick_of s instr before.hart.pc (moved_as before after)).outcome ≡ false
-    → after ≡ settled s instr before (moved_as before after) → after.past ≡ take 65536 (position_of before ∷ before.past)
-recorded_so stepped.Retired instr before after goes e = ap (λ (d : Debugged). d.past) e
-recorded_so (stepped.Printed number) instr before after goes e = ap (λ (d : Debugged). d.past) e
-recorded_so stepped.Break instr before after goes e = ap (λ (d : Debugged). d.past) e
-recorded_so (stepped.Exit code) instr before after goes e = absurd (let no : true ≡ false = goes in cc)
-recorded_so (stepped.Trap cause) instr before after goes e = absurd (let no : true ≡ false = goes in cc)
-
-abbrev Comes : Debugged → Debugged → Tick → Type 0
+-- the hart moves, and what it answers is printed
+abbrev pub Comes : Debugged → Debugged → Tick → Type 0
 Comes before after tick =
     (answer : Stepped) × (MovesSaying answer (position_of before) (position_of after) × (printed_by answer ≡ tick.printed))
 
@@ -93,17 +70,15 @@ move_made : (before after : Debugged) (tick : Tick) → stays tick.outcome ≡ f
     → Moves before (Ok tick) after → Comes before after tick
 move_made before after tick goes lead m =
     let s = m.stepped in
-    let came : Tick = tick_of s m.instr before.hart.pc (moved_as before after) in
-    let same : tick ≡ came = (let e : Ok tick ≡ Ok came = m.settles.0 in cc) in
-    let past = recorded_so s m.instr before after (sym (ap (λ (t : Tick). stays t.outcome) same) ∙ goes) m.settles.1 in
-    let move : MovesTo (position_of before) (position_of after) =
-    (subst (λ (l : List Position). LeadTo l (position_of after)) past lead).0 in
-    let left : Effect = record { answer = Ok move.answer; machine = machine_of after.hart after.memory } in
-    let right : Effect = record { answer = Ok s; machine = machine_of after.hart after.memory } in
-    let both : Ok move.answer ≡ Ok s = ap (λ (e : Effect). e.answer)
-    (one_move (machine_of before.hart before.memory) left right move.moved m.moved) in
-    let answer : move.answer ≡ s = cc in
-    (s, ((move, answer), printed_so s m.instr before.hart.pc (moved_as before after) ∙ sym (ap (λ (t : Tick). t.printed) same)))
+    let same : tick ≡ tick_of s m.instr before.hart.pc (moved_as before after) = one_tick tick _ m.settles.0 in
+    let past = rw (← same, goes) at (settled_past s m.instr before after m.settles.1) in
+    let move = (subst (λ (l : List Position). LeadTo l (position_of after)) past lead).0 in (
+      s,
+      (
+        (move, answers_equal (position_of before) (position_of after) (position_of after) s move m.moved),
+        printed_so s m.instr before.hart.pc (moved_as before after) ∙ sym (ap (λ (t : Tick). t.printed) same),
+      ),
+    )
 
 pub is_made : (p : Program) → EndsARun p.machine → IsMade p
 is_made p h due forward goes =
@@ -111,21 +86,12 @@ is_made p h due forward goes =
     move_made p.machine (moved p).machine (next_tick p) goes (ticks_lead p.machine (moved p).machine (Ok (next_tick p)) h.leads t)
     (move_of p.machine (moved p).machine (Ok (next_tick p)) due forward t)
 
-all_made : (program : Option Program) → IfSome program (λ p. EndsARun p.machine) → IfSome program IsMade
-all_made None h = tt
-all_made (Some p) h = is_made p h
-
 pub moves_are_made : (from : Beginning) (events : List Happened) → MovesAreMade (Reached from events)
-moves_are_made from events = all_made (Reached from events).now.debuggee.program (every_past_is_a_run from events)
-
-is_undone : (p : Program) → IsUndone p
-is_undone p due turns =
-    ap course_of (back_of p.machine (moved p).machine (Ok (next_tick p)) due turns (the_tick p.machine).is).1
-    ∙ back_course p.machine.goal p.machine
+moves_are_made from events = IfSome_then (Reached from events).now.debuggee.program (every_past_is_a_run from events) is_made
 
 all_undone : (program : Option Program) → IfSome program IsUndone
 all_undone None = tt
-all_undone (Some p) = is_undone p
+all_undone (Some p) = λ due turns. (undoes p turns due).course
 
 pub moves_are_undone : (s : Session) → MovesAreUndone s
 moves_are_undone s = all_undone s.now.debuggee.program

@@ -1,96 +1,87 @@
 -- A success of a request to go back has the program go back from where it stood.
-use Rattle.history_laws.proofs.Common.{[], answer_to, Answered, answered_by, answered_on, answered_with, Answering, answering_debuggee, answers_next, ap, arith, Back, Beginning, BeginsBack, Bool, Command, cond, course_of, Debuggee, demand_of, done, false, first_answered, FULL, Given, given_of, Goal, goal_asked, goal_of, goes_on, GoesBackFrom, Happened, histories, IfSome, intent_of, is_success, length, Link, List, ltb, Meets, next_answered, next_turn, None, Now, of_answer, OfProgram, on_program, Option, OrderlyOf, outcome_at, past_of, Pending, performed, Position, Program, program_of, Reached, refl, resumed, ReverseContinue, ReverseGo, run_of, Session, Some, StepBack, subst, success_by, success_of, sym, Terms, Tick, true, Turn, turn_by, turn_of, TurnsBeginBack, ℕ, ◌∷◌, ◌≡◌, ◌≤◌}
+use Rattle.history_laws.proofs.Common.{[], answer_to, Answered, answered, answered_on, Answering, answering_debuggee, arith, Ask, Back, Bad, Beginning, BeginsBack, by_turn, Command, course_of, Debuggee, demand_of, Effect, false, given_of, Goal, goal_asked, goes_on, GoesBackFrom, Happened, histories, IfSome, In, is_success, length, Link, List, Meets, None, Now, of_answer, OfProgram, on_program, Option, OrderlyOf, past_of, Pending, performed, Position, Program, program_of, Reached, refl, Request, resumed, ReverseContinue, ReverseGo, run_of, Seen, Session, Some, StepBack, StepIn, subst, success_by, success_of, sym, Terms, true, Turn, turns_back, TurnsBeginBack, ℕ, ◌∷◌, ◌≡◌, ◌≤◌}
+use Rattle.handlers.specs.Stepping.{granularity_of}
 use Rattle.history_laws.proofs.Recorded.{always_orderly}
-use Rattle.session.specs.Outcomes.{Outcome as Does}
-use Rattle.session.specs.declared.event.Applied.TheVariants.{Turn as DidTurn}
-use Rattle.session.specs.declared.event.Turned.TheVariants as turned
 
--- nothing is left to be told
-abbrev OwesNothing : Option Program → Type 0
-OwesNothing program = IfSome program (λ p. p.owed ≡ None)
+-- ---- the answer to a request that gives the program a goal
 
--- what was this goes back with a goal
-abbrev GoesOf : Goal → Option Program → Option Program → Type 0
-GoesOf g before after = OfProgram (λ p. OfProgram (GoesBackFrom g (course_of p.machine)) after) before
+abbrev Gives : Goal → Command → Type 0
+Gives g (StepBack arguments) = g ≡ Back
+Gives g (ReverseContinue arguments) = g ≡ ReverseGo
+Gives g (StepIn arguments) = g ≡ In (granularity_of arguments.granularity)
+Gives g other = ⊥
 
--- ---- the answer
+abbrev pub GivesGoal : Goal → Ask → Type 0
+GivesGoal g (Request r) = Gives g r.command
+GivesGoal g (Bad seq name refusal) = ⊥
 
-goes_one : (g : Goal) (p : Program) → p.owed ≡ None → p.mark ≡ None → 1 ≤ length p.machine.past
-    → GoesBackFrom g (course_of p.machine) (resumed g p)
-goes_one g p owed mark some = record { runs = refl; goes = refl; due = refl; owed = owed; mark = mark; course = refl; some = some }
+-- what was this stood still, and has the goal now; where it goes back, a move is recorded
+pub record Resumes (g : Goal) (before after : Option Program) : Type 0 where
+  pub still : goes_on (run_of before) ≡ false
+  pub some : turns_back g ≡ true → 1 ≤ length (past_of before)
+  pub is : after ≡ on_program (resumed g) before
 
-goes_by : (g : Goal) (program : Option Program) → OwesNothing program → OrderlyOf program → goes_on (run_of program) ≡ false
-    → 1 ≤ length (past_of program) → GoesOf g program (on_program (resumed g) program)
-goes_by g None owes o stands some = absurd (omega (arith, some))
-goes_by g (Some p) owes o stands some = goes_one g p owes (o.unmarked stands) some
+abbrev Resuming : Now → Goal → Answering → Type 0
+Resuming now g a = is_success a.outcome ≡ true → Resumes g now.debuggee.program a.debuggee.program
 
-success_goes : (g : Goal) (past : List Position) (given : Given) (terms : Terms) → OwesNothing given.debuggee.program
-    → OrderlyOf given.debuggee.program → goes_on (run_of given.debuggee.program) ≡ false → past_of given.debuggee.program ≡ past
-    → is_success (success_by past given terms g).outcome ≡ true
-    → GoesOf g given.debuggee.program (success_by past given terms g).debuggee.program
-success_goes g [] given terms owes o stands is h = absurd (let no : false ≡ true = h in cc)
-success_goes g (before ∷ past) given terms owes o stands is h =
-    let long : length (past_of given.debuggee.program) ≡ length (before ∷ past) = ap length is in
-    goes_by g given.debuggee.program owes o stands (omega (arith, long))
+module _ (now : Now) (terms : Terms) where
+  goes_back : (g : Goal) (past : List Position) → goes_on (run_of now.debuggee.program) ≡ false → past_of now.debuggee.program ≡ past
+      → Resuming now g (success_by past (given_of now) terms g)
+  goes_back g [] still is success = absurd (let no : false ≡ true = success in cc)
+  goes_back g (before ∷ past) still is success = record { still = still; some = λ _. rw is (omega arith); is = refl }
 
--- the answer to a request that gives the program a goal
-abbrev Begins : Now → Option Goal → Answering → Type 0
-Begins now asked a = (g : Goal) → asked ≡ Some g → is_success a.outcome ≡ true → GoesOf g now.debuggee.program a.debuggee.program
+  gives_goal : (file : Option (List ℕ)) (g : Goal) (c : Command) → Gives g c → Meets (run_of now.debuggee.program) (demand_of c)
+      → Resuming now g (success_of (given_of now) terms file c)
+  gives_goal file g (StepBack arguments) is meets = rw is (goes_back Back (past_of now.debuggee.program) meets.still refl)
+  gives_goal file g (ReverseContinue arguments) is meets = rw is (goes_back ReverseGo (past_of now.debuggee.program) meets.still refl)
+  gives_goal file g (StepIn arguments) is meets =
+      rw is (λ _. record { still = meets.still; some = λ turns. absurd (let no : false ≡ true = turns in cc); is = refl })
+  gives_goal file g other is meets = absurd is
 
-module _ (now : Now) (terms : Terms) (owes : OwesNothing now.debuggee.program) (o : OrderlyOf now.debuggee.program) where
-  with_goal : (asked : Goal) → goes_on (run_of now.debuggee.program) ≡ false
-      → Begins now (Some asked) (success_by (past_of now.debuggee.program) (given_of now) terms asked)
-  with_goal asked stands g e h =
-      let same : asked ≡ g = (let both : Some asked ≡ Some g = e in cc) in
-      let a : Answering = success_by (past_of now.debuggee.program) (given_of now) terms asked in
-      subst (λ (x : Goal). GoesOf x now.debuggee.program a.debuggee.program) same
-      (success_goes asked (past_of now.debuggee.program) (given_of now) terms owes o stands refl h)
-
-  command_begins : (file : Option (List ℕ)) (c : Command) → Meets (run_of now.debuggee.program) (demand_of c)
-      → Begins now (goal_of (intent_of c)) (success_of (given_of now) terms file c)
-  command_begins file (StepBack arguments) meets = with_goal Back meets.still
-  command_begins file (ReverseContinue arguments) meets = with_goal ReverseGo meets.still
-  command_begins file other meets = λ g e h. absurd (let no : None ≡ Some g = e in cc)
-
-  answer_begins : (file : Option (List ℕ)) (p : Pending) → Begins now (goal_asked p.ask) (answer_to now terms file p)
-  answer_begins file p =
-      of_answer (λ ask a. Begins now (goal_asked ask) a) now terms file p.ask p.fate
-      (λ refusal _ g e h. absurd (let no : false ≡ true = h in cc)) (λ r taken meets. command_begins file r.command meets)
+  answer_resumes : (file : Option (List ℕ)) (g : Goal) (p : Pending) → GivesGoal g p.ask → Resuming now g (answer_to now terms file p)
+  answer_resumes file g p =
+      of_answer (λ ask a. GivesGoal g ask → Resuming now g a) now terms file p.ask p.fate
+      (λ _ _ _ success. absurd (let no : false ≡ true = success in cc)) (λ r _ meets gives. gives_goal file g r.command gives meets)
 
 -- ---- the turn
 
-module _ (s : Session) (file : Option (List ℕ)) (o : OrderlyOf (program_of s)) where
-  abbrev Turns : Option Answered → Does → Type 0
-  Turns a does = BeginsBack a (program_of s) (program_of (performed histories does.acts s))
+-- one that answers a request owed nothing
+pub owes_none : (link : Option Link) (seen : Seen) (file : Option (List ℕ)) (a : Answered) → answered_on link seen file ≡ Some a
+    → IfSome seen.now.debuggee.program (λ p. p.owed ≡ None)
+owes_none link seen file a e = grind arith
 
-  waiting : (l : Link) (pending : List Pending) → OwesNothing (program_of s)
-      → Turns (first_answered (histories.see s) l file pending) (next_turn s.now l.terms file pending)
-  waiting l [] owes = tt
-  waiting l (p ∷ rest) owes = λ g e h.
-      subst (λ (d : Debuggee). GoesOf g (program_of s) d.program) (sym (answering_debuggee (answer_to s.now l.terms file p) s))
-      (answer_begins s.now l.terms owes o file p g e h)
+pub turn_resumes : (s : Session) (file : Option (List ℕ)) (g : Goal) → IfSome (answered (histories.see s) file) (λ a.
+    GivesGoal g a.request.ask → is_success a.answer.outcome ≡ true → Resumes g (program_of s) (program_of (Effect s (Turn file))))
+turn_resumes s file g = by_turn (histories.see s) file (λ x o. IfSome x (λ a.
+    GivesGoal g a.request.ask → is_success a.answer.outcome ≡ true → Resumes g (program_of s) (program_of (performed histories o.acts s))))
+    (record {
+      refused = tt;
+      tells = λ _ _ _ _. tt;
+      nothing = λ _. tt;
+      answers = λ l p gives success.
+          subst (λ (d : Debuggee). Resumes g (program_of s) d.program) (sym (answering_debuggee (answer_to s.now l.terms file p) s))
+          (answer_resumes s.now l.terms file g p gives success);
+    }) s.now.link
 
-  with_room : (l : Link) → OwesNothing (program_of s)
-      → Turns (next_answered (histories.see s) l file) (answers_next (histories.see s) l file)
-  with_room l owes = by (ltb FULL (length s.waiting)) where
-    by : (full : Bool) → Turns (cond full None (first_answered (histories.see s) l file s.now.arrivals.pending))
-        (cond full (done (DidTurn turned.Full) []) (next_turn s.now l.terms file s.now.arrivals.pending))
-    by true = tt
-    by false = waiting l s.now.arrivals.pending owes
+-- ---- the law
 
-  owing : (l : Link) (p : Program) (owed : Option Tick) → program_of s ≡ Some p → p.owed ≡ owed
-      → Turns (answered_by owed (histories.see s) l file) (turn_by owed (histories.see s) l p file)
-  owing l p None is owes = with_room l (subst OwesNothing (sym is) owes)
-  owing l p (Some tick) is owes = tt
+asks_so : (ask : Ask) (g : Goal) → goal_asked ask ≡ Some g → GivesGoal g ask × (turns_back g ≡ true)
+asks_so ask g e = grind arith
 
-  of_program : (l : Link) (program : Option Program) → program_of s ≡ program
-      → Turns (answered_with program (histories.see s) l file) (turn_of program (histories.see s) l file)
-  of_program l None is = with_room l (subst OwesNothing (sym is) tt)
-  of_program l (Some p) is = owing l p p.owed is refl
-
-  on_link : (link : Option Link) → Turns (answered_on link (histories.see s) file) (outcome_at (histories.see s) link (Turn file))
-  on_link None = tt
-  on_link (Some l) = of_program l (program_of s) refl
+goes_from : (g : Goal) (before after : Option Program) → turns_back g ≡ true → IfSome before (λ p. p.owed ≡ None) → OrderlyOf before
+    → Resumes g before after → OfProgram (λ p. OfProgram (GoesBackFrom g (course_of p.machine)) after) before
+goes_from g None after turns owes o r = let some = r.some turns in absurd (omega (arith, some))
+goes_from g (Some p) after turns owes o r =
+    rw r.is (record { runs = refl; goes = refl; due = refl; owed = owes; mark = o.unmarked r.still; course = refl; some = r.some turns })
 
 pub turns_begin_back : (from : Beginning) (events : List Happened) → TurnsBeginBack (Reached from events)
-turns_begin_back from events file = on_link (Reached from events) file (always_orderly from events) (Reached from events).now.link
+turns_begin_back from events file = by (answered (histories.see s) file) refl where
+  s : Session
+  s = Reached from events
+
+  by : (x : Option Answered) → answered (histories.see s) file ≡ x → BeginsBack x (program_of s) (program_of (Effect s (Turn file)))
+  by None e = tt
+  by (Some a) e = λ g asked success.
+      let asks = asks_so a.request.ask g asked in
+      goes_from g (program_of s) (program_of (Effect s (Turn file))) asks.1 (owes_none s.now.link (histories.see s) file a e)
+      (always_orderly from events) ((rw e at (turn_resumes s file g)) asks.0 success)
