@@ -112,7 +112,7 @@ def a_limit_of_file_size_ends_it_by_a_signal():
                 expect((ran.stderr, ran.returncode), wanted, "the end of %s, the signal restored: %s" % (words, restored))
 
 
-def a_stack_of_128_kib_is_enough():
+def a_stack_of_256_kib_is_enough():
     """Also for JSON and for an expression as deep as they may be."""
     deep = frame('{"seq":3,"type":"request","command":"threads","x":%s}' % ("[" * 126 + "]" * 126))
     with file_of(CIRCLES) as path:
@@ -121,7 +121,7 @@ def a_stack_of_128_kib_is_enough():
         data = FIRST + request(2, "launch", program=path) + deep + sets + request(5, "disconnect")
         whole = shell('exec "$0"', data)
         expect((b'"verified":true' in whole[0], *whole[1:]), (True, b"", 0), "the session with the stack that there is")
-        expect(shell('ulimit -s 128; exec "$0"', data), whole, "the session with a stack of 128 KiB")
+        expect(shell('ulimit -s 256; exec "$0"', data), whole, "the session with a stack of 256 KiB")
 
 
 # ---- descriptors
@@ -266,7 +266,7 @@ def checks():
         a_server_whose_standard_streams_are_closed_serves,
         an_output_that_nobody_reads_is_a_fault_and_no_signal,
         a_limit_of_file_size_ends_it_by_a_signal,
-        a_stack_of_128_kib_is_enough,
+        a_stack_of_256_kib_is_enough,
         a_file_for_which_there_is_no_descriptor_cannot_be_read,
         an_editor_for_whom_there_is_no_descriptor_is_a_fault,
         with_descriptors_for_one_editor_each_is_served,

@@ -19,7 +19,7 @@ import test_prove
 from support.program import PROGRAM, SECONDS, TOP, expect
 
 EPOCH = 1700000000
-COMMANDS = ("run", "check", "labels", "convert", "asm", "watch", "replay")
+COMMANDS = ("run", "debug", "check", "labels", "convert", "asm", "watch", "replay")
 COMPLETIONS = {"bash": "rvdap.bash", "zsh": "_rvdap", "fish": "rvdap.fish"}
 # What `make run` and the packages need of the repository.
 PARTS = ("Makefile", "README.md", "CHANGELOG.md", "docs", "editors", "examples", "packaging", "tools")
@@ -357,9 +357,10 @@ def titles_of(section):
 
 def the_manual_page_has_the_words_of_help():
     options = {word for title in titles_of("OPTIONS") for word in re.findall(r"--?\w[\w-]*", title)}
-    commands = {title.split()[0] for title in titles_of("COMMANDS")}
-    expect(options | {it for it in commands if it[0] != "-"}, words_of_help(), "options and commands")
-    expect({it for it in commands if it[0] == "-"}, words_of_commands() - words_of_help(), "options of commands alone")
+    commands = {title.split()[0] for title in titles_of("COMMANDS") if title[0] != "-"}
+    expect(options | commands, words_of_help(), "options and commands")
+    others = {word for title in titles_of("COMMANDS") for word in re.findall(r"--?\w[\w-]*", title)}
+    expect(others, words_of_commands() - words_of_help(), "options of commands alone")
     used = set(re.findall(r"(?<![\w-])--\w[\w-]*", manual_page()))
     expect(used - words_of_help() - words_of_commands(), set(), "options that are named anywhere")
     errors = set(re.findall(r"^  ([A-Z]\w+)  ", said_by(PROGRAM, "asm", "--help").partition("Errors")[2], re.M))
@@ -407,6 +408,7 @@ def bash_completes_the_words_of_help():
         expect(completed_by_bash(command, "-"), words_of_help(command), "options after " + command)
         expect(completed_by_bash(command), {command}, "the command " + command)
     for words, files in {"asm": "a.s c", "--program": "a.s c", "watch": "a.s b.txt c", "asm a.s": "", "run": "a.s c", "run --count": "a.s c", "run a.s": "a.s c",
+                         "debug": "a.s c", "debug -x": "a.s b.txt c", "debug -x b.txt": "a.s c", "debug a.s": "",
                          "run --limit 7": "a.s c", "run --trace 7 a.s": "a.s c", "labels --json": "a.s c", "labels a.s": "", "check": "a.s c", "check a.s": "a.s c",
                          "check --json a.s b.s": "a.s c"}.items():
         expect(completed_by_bash(*words.split(), ""), set(files.split()), "files after " + words)

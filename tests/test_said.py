@@ -19,7 +19,7 @@ from support.texts import FIRST, FIRST_ANSWER
 ABSENT = "/no such file"
 UNREAD = b"rvdap: %s: cannot read\n" % ABSENT.encode()
 # Each of the ways to ask for what is printed on standard output.
-ASKED = [("--help",), ("-h",), ("--version",), ("-V",), *((command, "--help") for command in ("asm", "run", "check", "labels", "watch"))]
+ASKED = [("--help",), ("-h",), ("--version",), ("-V",), *((command, "--help") for command in ("asm", "run", "debug", "check", "labels", "watch"))]
 
 
 # ---- help and the version

@@ -358,8 +358,9 @@ def help_says_what_to_do_without_a_command():
     for words in (b"Usage: rvdap [--memory <KIB>]", b"rvdap --listen <ADDR> [--program <FILE>] [--once]", b"rvdap asm <FILE>", b"rvdap watch <SCRIPT> [<C> [<N>]]",
                   b"rvdap replay [--from <N>] [--to <N>] [--facts] <SCRIPT>",
                   b"rvdap run [--memory <KIB>] [--limit <N>] [--output-limit <BYTES>]", b"[--count] [--registers] [--trace <N>] <FILE>..", b"rvdap check [--json] <FILE>..", b"rvdap labels [--json] <FILE>",
+                  b"rvdap debug [--memory <KIB>] [-x <SCRIPT>] <FILE>",
                   b"  --memory <KIB>     Memory of a program", b"  --listen <ADDR> ", b"  --program <FILE> ", b"  --once ", b"  asm      Assembles FILE", b"  watch    Plays SCRIPT",
-                  b"  run      Runs the program", b"  check    Tells the errors", b"  labels   Tells the labels", b"  convert  Writes the program",
+                  b"  run      Runs the program", b"  debug    Debugs the program", b"  check    Tells the errors", b"  labels   Tells the labels", b"  convert  Writes the program",
                   b"Without a command", b"Debug Adapter Protocol (DAP)", b"docs/PROTOCOL.md", b"Status: 0", b"--version"):
         expect(words in out, True, "help has %r" % words)
     expect(b"standard input and output" in b" ".join(out.split()), True, "help says where it speaks")

@@ -214,6 +214,27 @@ def a_loop_is_found_by_pause():
     with_editor(b"# for ever\ne: j e\n", act)
 
 
+def debugged(*commands, text=ENDS):
+    """What `rvdap debug` prints for commands that nobody types, and its status."""
+    with file_of(text) as path:
+        typed = "".join(command + "\n" for command in commands).encode()
+        ran = subprocess.run([PROGRAM, "debug", path], input=typed, capture_output=True, timeout=60)
+    expect(ran.stderr, b"", "what it says besides")
+    return ran.stdout.decode(), ran.returncode
+
+
+def a_command_that_is_refused_says_why():
+    for command, why in (("print a9", "is no register and no label"), ("print A0", "is no register and no label"),
+                         ("print $a0", "is no register and no label"), ("print a0 / 2", "no expression"), ("break 1 if a0 = 5", "bad condition"),
+                         ("print [0]", "is outside memory"), ("back", "nothing before this is recorded")):
+        out, status = debugged(command)
+        expect((why in out.partition("(rvdap) %s\n" % command)[2], status), (True, 1), "%s: %r" % (command, out))
+    out, status = debugged("continue", "print a0")
+    expect(("the program has ended" in out.partition("(rvdap) print a0\n")[2], status), (True, 1), "after the end: %r" % out)
+    out, status = debugged("break 3", "continue", "continue", "run", "continue")
+    expect((out.count("breakpoint 1\n"), status), (2, 0), "a breakpoint stays: %r" % out)
+
+
 def what_is_typed_is_no_request():
     expect(run(b"help\r\n\r\n"), (b"", b"rvdap: bad message\n", 1), "a word in a terminal")
 
@@ -270,6 +291,7 @@ def checks():
         a_run_in_a_terminal_says_what_was_wrong,
         what_is_not_recorded_is_not_taken_back,
         a_loop_is_found_by_pause,
+        a_command_that_is_refused_says_why,
         what_is_typed_is_no_request,
         a_file_without_a_command_is_no_command,
         a_port_that_is_taken_is_a_fault,

@@ -4,6 +4,7 @@ _rvdap() {
     ((COMP_CWORD > 1)) && command=${COMP_WORDS[1]}
     case $before in
         --program) _rvdap_programs; return ;;
+        -x | --commands) mapfile -t COMPREPLY < <(compgen -f -- "$word"); return ;;
         --record) mapfile -t COMPREPLY < <(compgen -d -- "$word"); return ;;
         --from | --to) mapfile -t COMPREPLY < <(compgen -W '1' -- "$word"); return ;;
         --listen) mapfile -t COMPREPLY < <(compgen -W '127.0.0.1:4711' -- "$word"); return ;;
@@ -13,14 +14,15 @@ _rvdap() {
     esac
     case $command in
         run) words="--memory --limit --output-limit --count --registers --trace --help -h" ;;
+        debug) words="--memory --commands -x --help -h" ;;
         check | labels) words="--json --help -h" ;;
         replay) words="--from --to --facts --help -h" ;;
         convert | asm | watch) words="--help -h" ;;
-        "") words="run check labels convert asm watch replay --memory --listen --program --once --verbose --record --help -h --version -V" ;;
+        "") words="run debug check labels convert asm watch replay --memory --listen --program --once --verbose --record --help -h --version -V" ;;
         *) words="--memory --listen --program --once --verbose --record" ;;
     esac
     case $command in
-        run | check | labels | convert | asm | watch | replay) [[ $word != -* ]] && { _rvdap_file "$command"; return; } ;;
+        run | debug | check | labels | convert | asm | watch | replay) [[ $word != -* ]] && { _rvdap_file "$command"; return; } ;;
     esac
     mapfile -t COMPREPLY < <(compgen -W "$words" -- "$word")
 }
@@ -29,7 +31,7 @@ _rvdap_file() {
     local place
     for ((place = 2; place < COMP_CWORD; place++)); do
         case ${COMP_WORDS[place]} in
-            --memory | --limit | --output-limit | --trace | --from | --to) ((place++)) ;;
+            --memory | --limit | --output-limit | --trace | --commands | -x | --from | --to) ((place++)) ;;
             -*) ;;
             *) [[ $1 == check || $1 == run ]] || return ;;
         esac

@@ -20,7 +20,7 @@ def text_of(value):
 
 
 def asks(*words, mode="serve", file=None, listen=None, program=None, once=False, verbose=False, memory=1024, limit=None, output_limit=None, trace=None, count=False,
-         registers=False, json=False, others=(), recording=None, connection=None, size=None, first=None, last=None, facts=False):
+         registers=False, json=False, others=(), recording=None, connection=None, size=None, first=None, last=None, facts=False, commands=None):
     """The words ask for these options."""
     def flag(value):
         return str(value).lower()
@@ -29,7 +29,8 @@ def asks(*words, mode="serve", file=None, listen=None, program=None, once=False,
         return "none" if value is None else str(value)
 
     options = " ".join([mode, text_of(file), text_of(listen), text_of(program), flag(once), flag(verbose), str(memory), number(limit), number(output_limit), number(trace),
-                        flag(count), flag(registers), flag(json), text_of(recording), number(connection), number(size), number(first), number(last), flag(facts), str(len(others)), *map(text_of, others)])
+                        flag(count), flag(registers), flag(json), text_of(recording), number(connection), number(size), number(first), number(last), flag(facts),
+                        text_of(commands), str(len(others)), *map(text_of, others)])
     return [(line("options", *words), options), (line("tried", *words), options)]
 
 
@@ -76,9 +77,10 @@ def no_limit(text):
 
 
 RUN = dict(mode="run", file="a.s")
+DEBUG = dict(mode="debug", file="a.s")
 CHECK = dict(mode="check", file="a.s")
 LABELS = dict(mode="labels", file="a.s")
-COMMANDS = ("asm", "watch", "run", "check", "labels", "convert", "replay")
+COMMANDS = ("asm", "watch", "run", "debug", "check", "labels", "convert", "replay")
 WATCH = dict(mode="watch", file="s")
 REPLAY = dict(mode="replay", file="s")
 
@@ -155,6 +157,20 @@ ROWS = [
         + asks("run", "--trace=3", "a.s", trace=3, **RUN) + asks("run", "a.s", "b.s", others=["b.s"], **RUN)
         + asks("run", "--limit=1", "a.s", "--output-limit=2", "b.s", "--trace", "3", "--registers", "--count", "c.s", limit=1, output_limit=2, trace=3, registers=True,
                count=True, others=["b.s", "c.s"], **RUN), MANUAL, refused=True),
+    Row("the ways to debug a program", asks("debug", "a.s", **DEBUG) + asks("debug", "--memory", "8", "a.s", memory=8, **DEBUG) + asks("debug", "-x", "s", "a.s", commands="s", **DEBUG)
+        + asks("debug", "a.s", "--commands", "s", "--memory=8", memory=8, commands="s", **DEBUG), MANUAL, refused=True),
+    Row("a script of commands is named in each form of an option", [step for form in (("-x", "s"), ("-xs",), ("-x=s",), ("--commands", "s"), ("--commands=s",))
+        for step in asks("debug", *form, "a.s", commands="s", **DEBUG) + asks("debug", "a.s", *form, commands="s", **DEBUG)]
+        + asks("debug", "-x", "-", "a.s", commands="-", **DEBUG) + asks("debug", "-x-s", "a.s", commands="-s", **DEBUG) + asks("debug", "-x=", "a.s", commands="", **DEBUG)
+        + asks("debug", "--commands=a b", "--", "-x", mode="debug", file="-x", commands="a b") + asks("debug", "-x", "debug", "debug", mode="debug", file="debug", commands="debug")
+        + refused("debug", "a.s", "-x") + refused("debug", "a.s", "--commands") + refused("debug", "-x", "--", "a.s") + refused("debug", "-x", "--memory", "8", "a.s")
+        + refused("debug", "-x", "s", "-x", "s", "a.s") + refused("debug", "-x", "s", "--commands", "s", "a.s") + refused("debug", "-X", "s", "a.s"), PROFILE),
+    Row("the program that is debugged is one file", refused("debug") + refused("debug", "-x", "s") + refused("debug", "--memory", "8") + refused("debug", "--") + refused("debug", "a.s", "b.s")
+        + [names("FILE", "debug"), names("b.s", "debug", "a.s", "b.s")], PROFILE),
+    Row("its memory is that of a program", [step for text, kib in (("4", 4), ("16384", 16384), ("0008", 8)) for step in asks("debug", "--memory", text, "a.s", memory=kib, **DEBUG)]
+        + [step for text in ("0", "5", "16388", "+8", "x", "") for step in refused("debug", "--memory", text, "a.s")] + [names("'5'", "debug", "--memory", "5", "a.s")], PROFILE),
+    Row("help of debug is printed", printed("debug", "--help") + printed("debug", "-h") + printed("debug", "-x", "s", "--help") + refused("debug", "--version")
+        + [names(word, "debug", "--help") for word in ("--memory <KIB>", "-x, --commands <SCRIPT>", "FILE", "(rvdap) break 36")], PROFILE),
     Row("the ways to check files", asks("check", "a.s", **CHECK) + asks("check", "--json", "a.s", json=True, **CHECK) + asks("check", "a.s", "--json", json=True, **CHECK)
         + asks("check", "a.s", "b.s", others=["b.s"], **CHECK) + asks("check", "a.s", "b.s", "c.s", "--json", others=["b.s", "c.s"], json=True, **CHECK)
         + asks("check", "--json", "a.s", "b.s", "a.s", others=["b.s", "a.s"], json=True, **CHECK), MANUAL, refused=True),
@@ -200,10 +216,11 @@ ROWS = [
         + refused("--json", "labels", "a.s") + [names("beside a command", "--memory", "8", command, "a.s") for command in COMMANDS], PROFILE),
     Row("a command has no option of another", [step for words in (("run", "--json"), ("run", "--once"), ("run", *LISTEN), ("run", "--program", "b.s"), ("check", "--memory", "8"),
         ("check", "--limit", "7"), ("check", "--count"), ("check", "--registers"), ("check", "--output-limit", "7"), ("labels", "--trace", "7"), ("check", "--once"), ("labels", "--memory", "8"),
-        ("labels", "--limit", "7"), ("labels", "--count"), ("asm", "--json"),
+        ("labels", "--limit", "7"), ("labels", "--count"), ("asm", "--json"), ("debug", "--limit", "7"), ("debug", "--count"), ("debug", "--trace", "7"), ("debug", "--json"),
+        ("debug", "--once"), ("debug", "--verbose"), ("debug", "--record", "there"), ("run", "-x", "s"), ("run", "--commands", "s"), ("check", "-x", "s"),
         ("asm", "--count"), ("watch", "--json"), ("watch", "--limit", "7")) for step in refused(*words, "a.s") + refused(words[0], "a.s", *words[1:])], PROFILE),
     Row("the options of commands are none without one", refused("--limit", "7") + refused("--count") + refused("--json") + refused("--registers")
-        + refused("--output-limit", "7") + refused("--trace", "7"), PROFILE),
+        + refused("--output-limit", "7") + refused("--trace", "7") + refused("-x", "s") + refused("--commands", "s") + refused("-x", "s", "debug", "a.s"), PROFILE),
     Row("files may look like options after --", asks("run", "--", "--count", mode="run", file="--count") + asks("run", "--count", "--", "-", mode="run", file="-", count=True)
         + asks("labels", "--", "--json", mode="labels", file="--json") + asks("check", "--", "--json", mode="check", file="--json")
         + asks("check", "--json", "--", "-x", "--", "--help", mode="check", file="-x", others=["--", "--help"], json=True)
@@ -216,7 +233,7 @@ ROWS = [
         + [names(word, "run", "--help") for word in ("--memory", "--limit", "--count", "--output-limit", "--registers", "--trace", "121", "122", "123", "124", "125")]
         + [names("--json", "check", "--help"), names("--json", "labels", "-h")] + printed("run", "--limit", "x", "--help") + refused("run", "--version") + refused("check", "-V")
         + refused("labels", "--version"), PROFILE, refused=37),
-    Row("a command's name is whole and in small letters", [step for word in ("ru", "runn", "RUN", "chec", "checks", "Check", "label", "labelss", "--run", "--check", "--labels", "-r")
-        for step in refused(word, "a.s")] + refused("asm", "run", "a.s") + refused("help", "run"), PROFILE),
+    Row("a command's name is whole and in small letters", [step for word in ("ru", "runn", "RUN", "chec", "checks", "Check", "label", "labelss", "--run", "--check", "--labels", "-r",
+        "debu", "debugs", "Debug", "--debug") for step in refused(word, "a.s")] + refused("asm", "run", "a.s") + refused("help", "run"), PROFILE),
     Row("texts of errors", [("text Words", "usage"), ("text NoMemory", "no memory")], "the doc comments of the errors"),
 ]

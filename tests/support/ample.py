@@ -38,6 +38,8 @@ ROWS = {
     'labels, diagnose, diagnose_json, told': 'tests/test_check.py',
     'converted': 'tests/test_convert.py',
     'joined, load, execute, fault_text, stop_text, beginning_text, registers_text, trace_text': 'tests/test_run.py',
+    'program_text': 'tests/test_debug.py',
+    'Console::launch, enter, run, pause, Piece::text': 'tests/test_console.py',
     'options, try_options, options_of': 'options: "the ways to call it", "all options of a listener at once, in any order"',
     'registers, stack_words, Handles::issue': 'variables: "registers have their names, and pc is the last", "64 words of the stack at most", "numbers of 1,000 frames"',
     'breaks_for': 'answers: "1,024 breakpoints, and one more", "conditions at their limits"',

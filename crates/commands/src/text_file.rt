@@ -1,5 +1,7 @@
 //! The text of assembly in a file.
 
+ghost use Rattle.std.specs.Prelude.{◌≤◌, IfOk, vec_len};
+
 use assembler::TEXT_LIMIT;
 use std::fs::File;
 use std::io;
@@ -14,7 +16,9 @@ pub(crate) enum NoText {
 }
 
 /// What a file holds, at most as many bytes as a text may have. A FIFO is read until it ends.
-pub(crate) fn text_in(rt: &HostRuntime, file: &str) -> Result<Vec<u8>, NoText> {
+pub(crate) fn text_in(rt: &HostRuntime, file: &str) -> Result<Vec<u8>, NoText>
+    ensures { IfOk result (λ text. vec_len text ≤ 1048576) }
+{
     match read_some(rt, file) {
         Ok(text) if text.len() > TEXT_LIMIT => Err(NoText::Unreadable),
         Ok(text) => Ok(text),

@@ -7,7 +7,7 @@ use Rattle.numerals.specs.Numerals.{numeral}
 use Rattle.numerals.specs.declared.NumeralError.{NumeralError}
 use Rattle.options.specs.CommandLine.{command_line}
 use Rattle.options.specs.Memory.{IsOffered, default_memory, is_offered, kib_for, offered}
-use Rattle.options.specs.Options.{IsConsistent, asked, asked_of, checking, commanded, executing, has_option, is_command, is_play, is_set, labelling, play_of, playing, run_of, running, serving, unless_refused, with_file}
+use Rattle.options.specs.Options.{IsConsistent, asked, asked_of, checking, commanded, debugging, executing, has_option, is_command, is_play, is_set, labelling, play_of, playing, run_of, running, serving, unless_refused, with_file}
 use Rattle.options.specs.declared.asked.Mode.{Mode}
 use Rattle.options.specs.declared.asked.Mode.TheVariants.{Asm, Watch, Replay, Convert}
 use Rattle.options.specs.declared.asked.Options.{Options}
@@ -55,6 +55,7 @@ served None None false verbose recording (Some kib) fits options e = same _ opti
   run = λ is. refl;
   play = λ is. refl;
   json = λ is. refl;
+  commands = λ is. refl;
 })
 served (Some listen) program once verbose recording (Some kib) fits options e = same _ options e (record {
   memory = fits kib refl;
@@ -69,6 +70,7 @@ served (Some listen) program once verbose recording (Some kib) fits options e = 
   run = λ is. refl;
   play = λ is. refl;
   json = λ is. refl;
+  commands = λ is. refl;
 })
 
 -- a command with its file, and what else it asks for
@@ -86,6 +88,7 @@ of_file mode file command = record {
   run = λ is. refl;
   play = λ is. refl;
   json = λ is. refl;
+  commands = λ is. refl;
 }
 
 run : (mode : Mode) (file : Option Text) → is_command mode ≡ true → (options : Options) → running mode file ≡ Ok options
@@ -112,6 +115,27 @@ execute (Some memory) (Some run) (Some (file ∷ others)) fits options e = same 
   run = λ none. absurd (cc none);
   play = λ is. refl;
   json = λ is. refl;
+  commands = λ is. refl;
+})
+
+debug : (memory : Option ℕ) (commands file : Option Text) → ((kib : ℕ) → memory ≡ Some kib → IsOffered kib)
+    → (options : Options) → debugging memory commands file ≡ Ok options → IsConsistent options
+debug None commands file fits options e = absurd (cc e)
+debug (Some memory) commands None fits options e = absurd (cc e)
+debug (Some memory) commands (Some file) fits options e = same _ options e (record {
+  memory = fits memory refl;
+  program = λ none. refl;
+  once = λ none. refl;
+  file = refl;
+  others = λ is. refl;
+  address = λ is. refl;
+  verbose = λ is. refl;
+  recording = λ is. refl;
+  default = λ none. absurd (cc none);
+  run = λ is. refl;
+  play = λ is. refl;
+  json = λ is. refl;
+  commands = λ none. absurd (cc none);
 })
 
 plays : (mode : Mode) (play : Option PlayOptions) (script : Option Text) → is_command mode ≡ true → is_play mode ≡ true → (options : Options)
@@ -131,6 +155,7 @@ plays mode (Some play) (Some script) command played options e = same _ options e
   run = λ is. refl;
   play = λ none. absurd (cc (none, played));
   json = λ is. refl;
+  commands = λ is. refl;
 })
 
 check : (json : Bool) (files : Option (List Text)) (options : Options) → checking json files ≡ Ok options → IsConsistent options
@@ -149,6 +174,7 @@ check json (Some (file ∷ others)) options e = same _ options e (record {
   run = λ is. refl;
   play = λ is. refl;
   json = λ none. absurd (cc none);
+  commands = λ is. refl;
 })
 
 label : (json : Bool) (file : Option Text) (options : Options) → labelling json file ≡ Ok options → IsConsistent options
@@ -166,25 +192,31 @@ label json (Some file) options e = same _ options e (record {
   run = λ is. refl;
   play = λ is. refl;
   json = λ none. absurd (cc none);
+  commands = λ is. refl;
 })
 
-by_name : (is_asm is_run is_check is_labels is_convert is_replay : Bool) (rows : List Row) (options : Options)
+by_name : (is_asm is_run is_check is_labels is_convert is_replay is_debug : Bool) (rows : List Row) (options : Options)
     → cond is_asm (running Asm (first_of (codes "FILE") rows))
     (cond is_run (executing (kib_for (first_of (codes "memory") rows)) (run_of rows) (all_of (codes "FILE") rows))
     (cond is_check (checking (is_set (codes "json") rows) (all_of (codes "FILE") rows))
     (cond is_labels (labelling (is_set (codes "json") rows) (first_of (codes "FILE") rows))
     (cond is_convert (running Convert (first_of (codes "FILE") rows))
     (cond is_replay (playing Replay (play_of rows) (first_of (codes "SCRIPT") rows))
-    (playing Watch (play_of rows) (first_of (codes "SCRIPT") rows))))))) ≡ Ok options → IsConsistent options
-by_name true is_run is_check is_labels is_convert is_replay rows options e = run Asm (first_of (codes "FILE") rows) refl options e
-by_name false true is_check is_labels is_convert is_replay rows options e = execute (kib_for (first_of (codes "memory") rows)) (run_of rows)
+    (cond is_debug (debugging (kib_for (first_of (codes "memory") rows)) (first_of (codes "commands") rows) (first_of (codes "FILE") rows))
+    (playing Watch (play_of rows) (first_of (codes "SCRIPT") rows)))))))) ≡ Ok options → IsConsistent options
+by_name true is_run is_check is_labels is_convert is_replay is_debug rows options e = run Asm (first_of (codes "FILE") rows) refl options e
+by_name false true is_check is_labels is_convert is_replay is_debug rows options e = execute (kib_for (first_of (codes "memory") rows)) (run_of rows)
     (all_of (codes "FILE") rows) (kib_for-some (first_of (codes "memory") rows)) options e
-by_name false false true is_labels is_convert is_replay rows options e = check (is_set (codes "json") rows) (all_of (codes "FILE") rows) options e
-by_name false false false true is_convert is_replay rows options e = label (is_set (codes "json") rows) (first_of (codes "FILE") rows) options e
-by_name false false false false true is_replay rows options e = run Convert (first_of (codes "FILE") rows) refl options e
-by_name false false false false false true rows options e =
+by_name false false true is_labels is_convert is_replay is_debug rows options e =
+    check (is_set (codes "json") rows) (all_of (codes "FILE") rows) options e
+by_name false false false true is_convert is_replay is_debug rows options e =
+    label (is_set (codes "json") rows) (first_of (codes "FILE") rows) options e
+by_name false false false false true is_replay is_debug rows options e = run Convert (first_of (codes "FILE") rows) refl options e
+by_name false false false false false true is_debug rows options e =
     plays Replay (play_of rows) (first_of (codes "SCRIPT") rows) refl refl options e
-by_name false false false false false false rows options e =
+by_name false false false false false false true rows options e = debug (kib_for (first_of (codes "memory") rows))
+    (first_of (codes "commands") rows) (first_of (codes "FILE") rows) (kib_for-some (first_of (codes "memory") rows)) options e
+by_name false false false false false false false rows options e =
     plays Watch (play_of rows) (first_of (codes "SCRIPT") rows) refl refl options e
 
 by_command : (beside : Bool) (name : Text) (rows : List Row) (options : Options) (refusal : Kinds)
@@ -192,7 +224,7 @@ by_command : (beside : Bool) (name : Text) (rows : List Row) (options : Options)
 by_command true name rows options refusal e = absurd (cc e)
 by_command false name rows options refusal e =
     by_name (bytes_eq name (codes "asm")) (bytes_eq name (codes "run")) (bytes_eq name (codes "check")) (bytes_eq name (codes "labels"))
-    (bytes_eq name (codes "convert")) (bytes_eq name (codes "replay")) rows options e
+    (bytes_eq name (codes "convert")) (bytes_eq name (codes "replay")) (bytes_eq name (codes "debug")) rows options e
 
 found : (rows : List Row) (command : Option (Text × List Row)) (options : Options) → asked_of rows command ≡ Ok options
     → IsConsistent options

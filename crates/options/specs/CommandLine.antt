@@ -5,13 +5,15 @@
 --   rvdap asm|convert FILE
 --   rvdap watch SCRIPT [C [N]]
 --   rvdap run [--memory KIB] [--limit N] [--output-limit BYTES] [--count] [--registers] [--trace N] FILE..
+--   rvdap debug [--memory KIB] [-x SCRIPT] FILE
 --   rvdap check [--json] FILE..
 --   rvdap labels [--json] FILE
 --   rvdap replay [--from N] [--to N] [--facts] SCRIPT
 --
 -- clap gets the words after the program's name. It takes each option at most once, a value after a blank or after `=`,
--- and adds `--help` and `--version`. That options stand beside one another as above is said in `Options`.
-use Rattle.std.specs.Prelude.{◌≡◌, Some, codes, refl, true}
+-- `-x` also as `--commands`, and adds `--help` and `--version`. That options stand beside one another as above is said in
+-- `Options`.
+use Rattle.std.specs.Prelude.{◌≡◌, ℕ, Some, codes, refl, true}
 use Rattle.clap.specs.Words.{App, Rule, Text, is_simple_and_free, new_app, new_rule, with_rule, with_subcommand}
 use Rattle.clap.specs.Lexer.{usize_max}
 use Rattle.clap.specs.declared.builder.action.ArgAction.TheVariants.{SetTrue}
@@ -19,6 +21,10 @@ use Rattle.clap.specs.declared.builder.action.ArgAction.TheVariants.{SetTrue}
 -- an option with a value, by its long name
 abbrev pub option : Text → Rule
 option name = record (new_rule name) { long = Some name; value_names = 1 }
+
+-- the same, by a letter too
+abbrev pub lettered : Text → ℕ → Rule
+lettered name letter = record (option name) { short = Some letter }
 
 -- an option without one
 abbrev pub flag : Text → Rule
@@ -77,11 +83,16 @@ replay_of_a_part = with_rule (with_rule (with_rule (new_app (codes "replay")) (o
 abbrev pub replay : App
 replay = with_rule replay_of_a_part (file (codes "SCRIPT"))
 
+-- 120 is `x`
+abbrev pub debug : App
+debug = with_rule (with_rule (with_rule (new_app (codes "debug")) (option (codes "memory"))) (lettered (codes "commands") 120))
+    (file (codes "FILE"))
+
 -- the whole, command by command
 unfoldable pub command_line : App
-command_line = with_subcommand (with_subcommand (with_subcommand (with_subcommand (with_subcommand (with_subcommand (with_subcommand with_options
+command_line = with_subcommand (with_subcommand (with_subcommand (with_subcommand (with_subcommand (with_subcommand (with_subcommand (with_subcommand with_options
     (with_file (codes "asm") (codes "FILE")).top) watch.top) run.top) check.top) labels.top) (with_file (codes "convert") (codes "FILE")).top)
-    replay.top
+    replay.top) debug.top
 
 -- clap's definitions say exactly what it makes of words
 pub is_exact : is_simple_and_free command_line ≡ true

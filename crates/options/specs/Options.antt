@@ -3,8 +3,8 @@
 -- clap reads the words, by its own definitions: which words it refuses, and what it finds in the others. Of what it finds
 --
 -- - a command stands by itself, with its file and the options that are its own: none of the other options stands beside it;
--- - of `run`, `--memory` has a value as in `Memory`, and `--limit`, `--output-limit` and `--trace` have one as in `Limits`; so have C and N
---   of `watch`, and `--from` and `--to` of `replay`;
+-- - of `run` and `debug`, `--memory` has a value as in `Memory`; of `run`, `--limit`, `--output-limit` and `--trace` have one as in `Limits`,
+--   and so have C and N of `watch`, and `--from` and `--to` of `replay`;
 -- - without a command, `--program` and `--once` stand only beside `--listen`, and `--memory` has a value as in `Memory`.
 use Rattle.std.specs.Prelude.{◌≡◌, ◌⊎◌, ◌∷◌, ◌||◌, ◌&&◌, ◌++◌, Bool, true, false, not, ℕ, List, [], Option, Some, None, Result, Ok, Err, IsErr, codes, if◌then◌else◌, is_some, refl}
 use Rattle.std.specs.Option.{option_map_or}
@@ -17,7 +17,7 @@ use Rattle.options.specs.CommandLine.{command_line}
 use Rattle.options.specs.Limits.{limit_for}
 use Rattle.options.specs.Memory.{IsOffered, default_memory, kib_for, kib_in}
 use Rattle.options.specs.declared.asked.Mode.{Mode}
-use Rattle.options.specs.declared.asked.Mode.TheVariants.{Serve, Asm, Watch, Replay, Run, Check, Labels, Convert}
+use Rattle.options.specs.declared.asked.Mode.TheVariants.{Serve, Asm, Watch, Replay, Run, Debug, Check, Labels, Convert}
 use Rattle.options.specs.declared.asked.Options.{Options}
 use Rattle.options.specs.declared.asked.PlayOptions.{PlayOptions}
 use Rattle.options.specs.declared.asked.RunOptions.{RunOptions}
@@ -65,6 +65,7 @@ serving listen program once verbose recording (Some memory) = if lacks_listen li
   run = plain_run;
   play = plain_play;
   json = false;
+  commands = None;
 })
 
 -- ---- a command
@@ -84,6 +85,7 @@ with_file mode file = record {
   run = plain_run;
   play = plain_play;
   json = false;
+  commands = None;
 }
 
 abbrev pub running : Mode → Option Text → Result Options Kinds
@@ -110,6 +112,12 @@ executing (Some memory) None files = Err (kind.ValueValidation ∷ [])
 executing (Some memory) (Some run) None = Err (kind.MissingRequiredArgument ∷ [])
 executing (Some memory) (Some run) (Some []) = Err (kind.MissingRequiredArgument ∷ [])
 executing (Some memory) (Some run) (Some (file ∷ others)) = Ok (record (with_file Run file) { memory = memory; run = run; others = others })
+
+-- a program is debugged: what its memory is, the script of commands that come first, and its file
+abbrev pub debugging : Option ℕ → Option Text → Option Text → Result Options Kinds
+debugging None commands file = Err (kind.ValueValidation ∷ [])
+debugging (Some memory) commands None = Err (kind.MissingRequiredArgument ∷ [])
+debugging (Some memory) commands (Some file) = Ok (record (with_file Debug file) { memory = memory; commands = commands })
 
 -- how a script is played: the connection that is watched and how many bytes for it, the first and the last event that is told, and whether
 -- what is known is told; there is none where a number is bad
@@ -151,6 +159,8 @@ commanded name rows = if bytes_eq name (codes "asm") then running Asm (first_of 
     else if bytes_eq name (codes "labels") then labelling (is_set (codes "json") rows) (first_of (codes "FILE") rows)
     else if bytes_eq name (codes "convert") then running Convert (first_of (codes "FILE") rows)
     else if bytes_eq name (codes "replay") then playing Replay (play_of rows) (first_of (codes "SCRIPT") rows)
+    else if bytes_eq name (codes "debug") then debugging (kib_for (first_of (codes "memory") rows)) (first_of (codes "commands") rows)
+    (first_of (codes "FILE") rows)
     else playing Watch (play_of rows) (first_of (codes "SCRIPT") rows)
 
 -- ---- the whole
@@ -192,6 +202,7 @@ is_command Asm = true
 is_command Watch = true
 is_command Replay = true
 is_command Run = true
+is_command Debug = true
 is_command Check = true
 is_command Labels = true
 is_command Convert = true
@@ -203,6 +214,7 @@ has_memory Asm = false
 has_memory Watch = false
 has_memory Replay = false
 has_memory Run = true
+has_memory Debug = true
 has_memory Check = false
 has_memory Labels = false
 has_memory Convert = false
@@ -214,6 +226,7 @@ is_run Asm = false
 is_run Watch = false
 is_run Replay = false
 is_run Run = true
+is_run Debug = false
 is_run Check = false
 is_run Labels = false
 is_run Convert = false
@@ -224,6 +237,11 @@ is_play Watch = true
 is_play Replay = true
 is_play _ = false
 
+-- commands can be played first in a mode
+abbrev pub has_commands : Mode → Bool
+has_commands Debug = true
+has_commands _ = false
+
 -- several files can be named in a mode
 abbrev pub has_others : Mode → Bool
 has_others Serve = false
@@ -231,6 +249,7 @@ has_others Asm = false
 has_others Watch = false
 has_others Replay = false
 has_others Run = true
+has_others Debug = false
 has_others Check = true
 has_others Labels = false
 has_others Convert = false
@@ -242,6 +261,7 @@ has_json Asm = false
 has_json Watch = false
 has_json Replay = false
 has_json Run = false
+has_json Debug = false
 has_json Check = true
 has_json Labels = true
 has_json Convert = false
@@ -263,6 +283,7 @@ pub record IsConsistent (options : Options) : Type 0 where
   pub run : is_run options.mode ≡ false → options.run ≡ plain_run
   pub play : is_play options.mode ≡ false → options.play ≡ plain_play
   pub json : has_json options.mode ≡ false → options.json ≡ false
+  pub commands : has_commands options.mode ≡ false → options.commands ≡ None
 
 -- ---- examples
 
@@ -281,6 +302,7 @@ defaults = record {
   run = plain_run;
   play = plain_play;
   json = false;
+  commands = None;
 }
 
 nothing_said : asked [] ≡ Ok defaults
@@ -410,6 +432,19 @@ no_number_of_instructions = refl
 memory_before_run : asked (codes "--memory" ∷ codes "8" ∷ codes "run" ∷ codes "a.s" ∷ []) ≡ Err (kind.ArgumentConflict ∷ [])
 unfolding clap_on_literals asked command_line
 memory_before_run = refl
+
+debug_said : asked (codes "debug" ∷ codes "a.s" ∷ []) ≡ Ok (with_file Debug (codes "a.s"))
+unfolding clap_on_literals asked command_line
+debug_said = refl
+
+all_of_debug : asked (codes "debug" ∷ codes "-x" ∷ codes "s" ∷ codes "--memory=8" ∷ codes "a.s" ∷ [])
+    ≡ Ok (record (with_file Debug (codes "a.s")) { memory = 8; commands = Some (codes "s") })
+unfolding clap_on_literals asked command_line
+all_of_debug = refl
+
+commands_twice : asked (codes "debug" ∷ codes "-x" ∷ codes "s" ∷ codes "--commands=t" ∷ codes "a.s" ∷ []) ≡ Err (kind.ArgumentConflict ∷ [])
+unfolding clap_on_literals asked command_line
+commands_twice = refl
 
 check_said : asked (codes "check" ∷ codes "a.s" ∷ codes "b.s" ∷ codes "c.s" ∷ codes "--json" ∷ [])
     ≡ Ok (record (with_file Check (codes "a.s")) { others = codes "b.s" ∷ codes "c.s" ∷ []; json = true })

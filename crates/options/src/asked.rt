@@ -17,6 +17,8 @@ pub enum Mode {
     Replay,
     /// Run the program in a file.
     Run,
+    /// Debug the program in a file, by commands.
+    Debug,
     /// Tell the errors of each of some files.
     Check,
     /// Tell the labels of a file.
@@ -104,6 +106,8 @@ pub struct Options {
     pub play: PlayOptions,
     /// Whether errors and labels are told as JSON.
     pub json: bool,
+    /// The file of the commands that come first, where a program is debugged.
+    pub commands: Option<Text>,
 }
 
 /// A text of a command line. A contract sees it as the list of its bytes, which are UTF-8.

@@ -116,6 +116,25 @@ const AFTER_HELP_OF_RUN: &str = "\
     \nand 1, with a line that begins with rvdap, where FILE cannot be read, standard\
     \noutput failed or no memory was left.";
 
+// What help of `debug` says after its options.
+const AFTER_HELP_OF_DEBUG: &str = "\
+    Example:\
+    \n  $ rvdap debug examples/sort.s\
+    \n  ..\
+    \n  (rvdap) break 36\
+    \n  ..\
+    \n\
+    \n`help` lists the commands; those that gdb has mean the same here. SCRIPT is a\
+    \nfile of commands, one on a line, which are played first.\
+    \n\
+    \nIn a terminal, Enter pauses a program that runs. Where standard input is no\
+    \nterminal, commands are read from it line by line, and each is repeated after its\
+    \nprompt. The end of the input ends rvdap, as `quit` does.\
+    \n\
+    \nStatus: 0; 1 where FILE or SCRIPT cannot be read, FILE does not assemble, a\
+    \ncommand that was not typed in a terminal was refused, standard output failed or\
+    \nno memory was left; and 2 if the words on the command line are not as above.";
+
 // What help of `check` says after its options.
 const AFTER_HELP_OF_CHECK: &str = "\
     Example:\
@@ -160,7 +179,8 @@ pub(crate) fn command<'a>(alloc: Global) -> Result<Command<'a>, AllocError>
     let command = added(command, check(alloc));
     let command = added(command, labels(alloc));
     let command = added(command, convert(alloc));
-    added(command, replay(alloc))
+    let command = added(command, replay(alloc));
+    added(command, debug(alloc))
 }
 
 // A command that is told of another. What was made before memory ran out is dropped here, and in `told`.
@@ -230,6 +250,7 @@ fn plain<'a>(alloc: Global) -> Command<'a>
              [--verbose] [--record <FOLDER>]\n       \
              rvdap run [--memory <KIB>] [--limit <N>] [--output-limit <BYTES>]\n                 \
              [--count] [--registers] [--trace <N>] <FILE>..\n       \
+             rvdap debug [--memory <KIB>] [-x <SCRIPT>] <FILE>\n       \
              rvdap check [--json] <FILE>..\n       \
              rvdap labels [--json] <FILE>\n       \
              rvdap convert <FILE>\n       \
@@ -459,6 +480,37 @@ fn run_of_a_machine<'a>(alloc: Global) -> Result<Command<'a>, AllocError>
     let command = told(command, memory(alloc));
     let command = told(command, limit(alloc));
     told(command, output_limit(alloc))
+}
+
+fn debug<'a>(alloc: Global) -> Result<Command<'a>, AllocError>
+    ensures { IfOk result (IsTold spec.debug) }
+{
+    let command = Ok(described(
+        alloc,
+        "debug",
+        "Debugs the program in FILE at a prompt",
+        "rvdap debug [--memory <KIB>] [-x <SCRIPT>] <FILE>",
+        AFTER_HELP_OF_DEBUG,
+    ));
+    let command = told(command, memory(alloc));
+    let command = told(command, commands(alloc));
+    let text = file(
+        alloc,
+        "FILE",
+        "A text of assembly, of at most 1,048,576 bytes",
+    );
+    told(command, text)
+}
+
+fn commands<'a>(alloc: Global) -> Arg<'a>
+    ensures rule { rule_of result ≡ spec.lettered (codes "commands") 120 }
+    ensures local { result.global ≡ false }
+{
+    Arg::new(alloc, "commands")
+        .short('x')
+        .long("commands")
+        .value_name("SCRIPT")
+        .help("Play the commands in SCRIPT first, line by line")
 }
 
 fn limit<'a>(alloc: Global) -> Arg<'a>

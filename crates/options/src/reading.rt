@@ -19,6 +19,7 @@ use std::alloc::Global;
 /// - `--listen ADDR [--program FILE] [--once] [--memory KIB] [--verbose] [--record FOLDER]`: or over TCP,
 /// - `asm FILE`, `labels [--json] FILE`, `check [--json] FILE..`: the instructions, labels or errors of files are told,
 /// - `run [--memory KIB] [--limit N] [--output-limit BYTES] [--count] [--registers] [--trace N] FILE..`: a program is run,
+/// - `debug [--memory KIB] [-x SCRIPT] FILE`: a program is debugged, by commands,
 /// - `convert FILE`: a file of another assembler is converted,
 /// - `watch SCRIPT [C [N]]`, `replay [--from N] [--to N] [--facts] SCRIPT`: what a script's editor knows, or its conversation, is printed.
 ///

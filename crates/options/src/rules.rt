@@ -55,6 +55,8 @@ fn commanded<'a>(alloc: Global, name: &str, matches: &ArgMatches<'a>) -> Result<
         running(alloc, Mode::Convert, given(matches, "FILE"))
     } else if name == "replay" {
         played(alloc, Mode::Replay, matches)
+    } else if name == "debug" {
+        debugged(alloc, matches)
     } else {
         played(alloc, Mode::Watch, matches)
     }
@@ -77,6 +79,7 @@ fn with_file(alloc: Global, mode: Mode, file: &str) -> Result<Options, AllocErro
         run: RunOptions::PLAIN,
         play: PlayOptions::PLAIN,
         json: false,
+        commands: None,
     })
 }
 
@@ -150,6 +153,40 @@ fn executing<'a>(
         }),
         _ => Err(Fault::WithoutFile),
     }
+}
+
+// A program is debugged.
+fn debugged<'a>(alloc: Global, matches: &ArgMatches<'a>) -> Result<Options, Fault<'a>>
+    ensures { Finds result (spec.debugging
+        (kib_for (first_of (codes "memory") (rows_of (found_of matches.now))))
+        (first_of (codes "commands") (rows_of (found_of matches.now)))
+        (first_of (codes "FILE") (rows_of (found_of matches.now)))) }
+{
+    let memory = match memory_for(given(matches, "memory")) {
+        Ok(memory) => memory,
+        Err(text) => return Err(Fault::Memory(text)),
+    };
+    let commands = given(matches, "commands");
+    debugging(alloc, memory, commands, given(matches, "FILE"))
+}
+
+fn debugging<'a>(
+    alloc: Global,
+    memory: u32,
+    commands: Option<&str>,
+    file: Option<&str>,
+) -> Result<Options, Fault<'a>>
+    ensures { Finds result (spec.debugging (Some memory)
+        (option_map (λ t. t.now) commands.entry) (option_map (λ t. t.now) file.entry)) }
+{
+    let Some(file) = file else {
+        return Err(Fault::WithoutFile);
+    };
+    Ok(Options {
+        memory,
+        commands: copied(alloc, commands)?,
+        ..with_file(alloc, Mode::Debug, file)?
+    })
 }
 
 // A script is played.
@@ -285,6 +322,7 @@ fn serving<'a>(
         run: RunOptions::PLAIN,
         play: PlayOptions::PLAIN,
         json: false,
+        commands: None,
     })
 }
 

@@ -2,6 +2,7 @@
 
 use crate::disk::Disk;
 use crate::editors::{Editors, serve_accepted};
+use crate::exit_reason::exit_reason_by;
 use commands::{ExitReason, VerboseDoor, say};
 use connections::TcpDoor;
 use session::{BODY_LIMIT, Session};
@@ -20,7 +21,7 @@ pub(crate) fn listen<R: Recorder>(
 ) -> ExitReason {
     let mut door = match open(rt, address) {
         Ok(door) => door,
-        Err(error) => return closed(&error),
+        Err(error) => return exit_reason_by(&error),
     };
     say(rt, format_args!("listening on {address}\n"));
     let mut disk = Disk::new(rt);
@@ -42,7 +43,7 @@ pub(crate) fn listen_verbosely<R: Recorder>(
                 rt,
                 format_args!("rvdap: cannot listen on {address}: {error}\n"),
             );
-            return closed(&error);
+            return exit_reason_by(&error);
         }
     };
     say(rt, format_args!("listening on {local}\n"));
@@ -67,11 +68,4 @@ fn open_at(rt: &HostRuntime, address: &str) -> io::Result<(TcpDoor, SocketAddr)>
     let listener = TcpListener::bind(rt, address)?;
     let local = listener.local_addr()?;
     Ok((TcpDoor::new(listener)?, local))
-}
-
-fn closed(error: &io::Error) -> ExitReason {
-    match error.kind() {
-        io::ErrorKind::OutOfMemory => ExitReason::NoMemory,
-        _ => ExitReason::ReadOrWriteFault,
-    }
 }

@@ -1,9 +1,10 @@
 //! `rvdap`, a debug adapter: editors that speak the Debug Adapter Protocol are served over standard streams or over TCP. By
 //! `rvdap run FILE..` a program runs without an editor, by `rvdap check FILE..` its errors are told, by `rvdap labels FILE` and `rvdap asm FILE`
-//! what is in it, `rvdap watch SCRIPT` shows what an editor knows by a script, and `rvdap replay SCRIPT` its conversation, as of a session that
-//! was recorded.
+//! what is in it, `rvdap debug FILE` debugs a program in the terminal, `rvdap watch SCRIPT` shows what an editor knows by a script, and
+//! `rvdap replay SCRIPT` its conversation, as of a session that was recorded.
 #![tactic(auto)]
 
+mod debug;
 mod disk;
 mod editors;
 mod exit_reason;
@@ -23,6 +24,7 @@ use commands::{
     fail_at, list_file, list_labels, options_of, run_files, say,
 };
 use connections::StreamWire;
+use debug::debug_file;
 use disk::Disk;
 use editors::editors_of;
 use listening::{listen, listen_verbosely};
@@ -38,7 +40,7 @@ use watch::{replay_file, watch_file};
 
 /// Status 0 where the input ended or a `disconnect` succeeded, where a file was listed or a script was played, where no file that was checked
 /// has an error, and where help or the version was printed; 1 with one line on standard error where that failed, or where a file has an
-/// error; 2 where the arguments are not taken. A program that is run says its status itself.
+/// error; 2 where the arguments are not taken. A program that is run says its status itself, and `debug_file` that of one that is debugged.
 fn main(rt: HostRuntime) -> ExitCode {
     match options_of(&rt) {
         Ok(options) => run(&rt, &options),
@@ -56,6 +58,12 @@ fn run(rt: &HostRuntime, options: &Options) -> ExitCode
         (Mode::Labels, Some(file)) => list_labels(rt, file.as_str(), options.json),
         (Mode::Watch, Some(script)) => watch_file(rt, script.as_str(), options.play),
         (Mode::Replay, Some(script)) => replay_file(rt, script.as_str(), options.play),
+        (Mode::Debug, Some(file)) => debug_file(
+            rt,
+            file.as_str(),
+            options.commands.as_ref(),
+            MemorySize::of(options.memory),
+        ),
         (Mode::Run, Some(file)) => run_files(
             rt,
             file.as_str(),

@@ -115,6 +115,7 @@ fn told(alloc: Global, options: &Options) -> Result<String, Fault> {
         Mode::Watch => "watch",
         Mode::Replay => "replay",
         Mode::Run => "run",
+        Mode::Debug => "debug",
         Mode::Check => "check",
         Mode::Labels => "labels",
         Mode::Convert => "convert",
@@ -137,6 +138,7 @@ fn told(alloc: Global, options: &Options) -> Result<String, Fault> {
     line.optional(options.play.from)?;
     line.optional(options.play.to)?;
     line.value(options.play.facts)?;
+    add_text(&mut line, options.commands.as_ref())?;
     add_others(&mut line, options.others.as_slice())?;
     Ok(line.into_string())
 }

@@ -9,4 +9,5 @@ returns c =
     let check = c.added-command-4.ensures _ _ run c.check.ensures in
     let labels = c.added-command-5.ensures _ _ check c.labels.ensures in
     let convert = c.added-command-6.ensures _ _ labels c.convert.ensures in
-    c.added.ensures _ _ convert c.replay.ensures
+    let replay = c.added-command-7.ensures _ _ convert c.replay.ensures in
+    c.added.ensures _ _ replay c.debug.ensures

@@ -1,0 +1,5 @@
+use Rattle.console.proofs.Following.{calls}
+use Rattle.console.proofs.link.Link.slice.Goals as goal
+
+pub invariant_of-self : goal.invariant_of-self
+invariant_of-self c = calls _ _ _ _ c.slice-sliced.ensures c.self.invariant

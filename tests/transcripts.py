@@ -1,0 +1,130 @@
+"""What `rvdap debug` shows for lines: programs, and for each line that is typed what is shown, worked by hand from the text of the program.
+
+Instructions stand at 0x00010000, 0x00010004 and so on; with 1 MiB of memory sp is 0x00110000 in the beginning.
+"""
+
+# Counts down from 3, and ends with the code 0.
+COUNT = b"_start: li a0, 3\nloop: addi a0, a0, -1\nbnez a0, loop\nli a7, 93\necall\n"
+COUNT_BEGINS = "0x00010000 _start\n>    1  _start: li a0, 3\n     2  loop: addi a0, a0, -1\n"
+
+# Calls a function that stores a0 into a word, and prints it.
+STORE = (b"_start: li a0, 7\ncall put\nli a7, 1\necall\nli a0, 1\ncall put\nli a7, 93\necall\n"
+         b"put: la t0, table\nsw a0, 4(t0)\nret\ntable: .word 65, 0xfffffffe\n")
+STORE_BEGINS = "0x00010000 _start\n>    1  _start: li a0, 7\n     2  call put\n"
+
+# Runs for ever.
+ENDLESS = b"here: j here\n"
+
+# Loads from address 0.
+TRAP = b"_start: nop\nlw a0, 0(zero)\n"
+TRAP_BEGINS = "0x00010000 _start\n>    1  _start: nop\n     2  lw a0, 0(zero)\n"
+
+# An unknown call, and an instruction that is written over.
+CALLS = b"_start: li a7, 5\necall\n"
+CALLS_BEGINS = "0x00010000 _start\n>    1  _start: li a7, 5\n     2  ecall\n"
+OVER = b"_start: la t0, target\nsw zero, 0(t0)\ntarget: nop\n"
+OVER_BEGINS = "0x00010000 _start\n>    1  _start: la t0, target\n     2  sw zero, 0(t0)\n"
+
+# The program, its first screen, and lines with what is shown for each; whether a line is refused.
+TRANSCRIPTS = (
+    ("steps show what changed", COUNT, COUNT_BEGINS, (
+        ("step", "0x00010004 loop\n    a0 = 0x00000003  3\n     1  _start: li a0, 3\n>    2  loop: addi a0, a0, -1\n     3  bnez a0, loop\n"),
+        ("", "0x00010008 loop+4\n    a0 = 0x00000002  2\n     2  loop: addi a0, a0, -1\n>    3  bnez a0, loop\n     4  li a7, 93\n"),
+        ("back", "0x00010004 loop\n    a0 = 0x00000003  3\n     1  _start: li a0, 3\n>    2  loop: addi a0, a0, -1\n     3  bnez a0, loop\n"),
+        ("si 2", "0x00010004 loop\n    a0 = 0x00000002  2\n     1  _start: li a0, 3\n>    2  loop: addi a0, a0, -1\n     3  bnez a0, loop\n"),
+        ("back 4", "nothing before this is recorded\n0x00010000 _start\n    a0 = 0x00000000  0\n>    1  _start: li a0, 3\n     2  loop: addi a0, a0, -1\n"),
+        ("continue", "the program ended with exit code 0\n"),
+    ), True),
+    ("breakpoints have numbers, conditions and marks", COUNT, COUNT_BEGINS, (
+        ("break loop if a0 == 2", "breakpoint 1 at 0x00010004\n"),
+        ("b 4", "breakpoint 2 at 0x0001000c\n"),
+        ("breakpoints", "   1  0x00010004  loop  if a0 == 2\n   2  0x0001000c  line 4\n"),
+        ("c", "breakpoint 1\n0x00010004 loop\n    a0 = 0x00000002  2\n     1  _start: li a0, 3\n>*   2  loop: addi a0, a0, -1\n     3  bnez a0, loop\n"),
+        ("delete 1", ""),
+        ("tbreak *loop + 8 hit 1", "breakpoint 3 at 0x0001000c\n"),
+        ("c", "breakpoint 2, 3\n0x0001000c loop+8\n    a0 = 0x00000000  0\n     3  bnez a0, loop\n>*   4  li a7, 93\n     5  ecall\n"),
+        ("breakpoints", "   2  0x0001000c  line 4\n"),
+        ("delete", ""),
+        ("breakpoints", "no breakpoints\n"),
+    ), False),
+    ("values are shown in each form, with the label that lies there", STORE, STORE_BEGINS, (
+        ("print [table]", "0x00000041  65  'A'\n"),
+        ("p [table + 4]", "0xfffffffe  4294967294  -2\n"),
+        ("print put", "0x00010028  65576  put\n"),
+        ("print 'A' + 1", "0x00000042  66  'B'\n"),
+        ("x table 2", "0x00010038  0x00000041 0xfffffffe\n"),
+        ("xb table 5", "0x00010038  41 00 00 00 fe  A....\n"),
+        ("labels", "0x00010000  _start\n0x00010028  put\n0x00010038  table\n"),
+        ("set [table] = 'B'", "    [0x00010038] = 0x00000042\n"),
+        ("set a1 = table", "    a1 = 0x00010038  65592  table\n"),
+        ("registers a1 pc", "    a1 = 0x00010038  65592  table\n    pc = 0x00010000  65536  _start\n"),
+        ("where", "0x00010000 _start\n>    1  _start: li a0, 7\n     2  call put\n"),
+    ), False),
+    ("who changed a word is found, on and back", STORE, STORE_BEGINS, (
+        ("change [table + 4]", "[table + 4] was 0xfffffffe  4294967294  -2\n[table + 4] is  0x00000007  7\nchanged by\n"
+         "> 0x00010030  00a2a223  sw a0, 4(t0)              put+8\n"
+         "0x00010034 put+12\n    ra = 0x0001000c  65548  _start+12\n    t0 = 0x00010038  65592  table\n    a0 = 0x00000007  7\n"
+         "    10  sw a0, 4(t0)\n>   11  ret\n    12  table: .word 65, 0xfffffffe\n"),
+        ("finish", "0x0001000c _start+12\n     2  call put\n>    3  li a7, 1\n     4  ecall\n"),
+        ("break put", "breakpoint 1 at 0x00010028\n"),
+        ("c", "7\nbreakpoint 1\n0x00010028 put\n    ra = 0x00010020  65568  _start+32\n    a0 = 0x00000001  1\n    a7 = 0x00000001  1\n"
+         "     8  ecall\n>*   9  put: la t0, table\n    10  sw a0, 4(t0)\n"),
+        ("bt", "#0   0x00010028 put  line 9  put: la t0, table\n#1   0x0001001c _start+28  line 6  call put\n"),
+        ("back-to-change [table + 4]", "[table + 4] was 0xfffffffe  4294967294  -2\n[table + 4] is  0x00000007  7\nchanged by\n"
+         "> 0x00010030  00a2a223  sw a0, 4(t0)              put+8\n"
+         "0x00010030 put+8\n    ra = 0x0001000c  65548  _start+12\n    a0 = 0x00000007  7\n    a7 = 0x00000000  0\n"
+         " *   9  put: la t0, table\n>   10  sw a0, 4(t0)\n    11  ret\n"),
+    ), False),
+    ("what is displayed is shown at each stop", COUNT, COUNT_BEGINS, (
+        ("display a0 * 2", "1: a0 * 2 = 0x00000000  0\n"),
+        ("display [sp - 4]", "2: [sp - 4] = 0x00000000  0\n"),
+        ("undisplay 2", ""),
+        ("s", "0x00010004 loop\n    a0 = 0x00000003  3\n     1  _start: li a0, 3\n>    2  loop: addi a0, a0, -1\n     3  bnez a0, loop\n"
+         "1: a0 * 2 = 0x00000006  6\n"),
+        ("undisplay", ""),
+        ("where", "0x00010004 loop\n     1  _start: li a0, 3\n>    2  loop: addi a0, a0, -1\n     3  bnez a0, loop\n"),
+    ), False),
+    ("what a logpoint says comes before the stop after it", COUNT, COUNT_BEGINS, (
+        ("log loop once more", "breakpoint 1 at 0x00010004\n"),
+        ("break 4", "breakpoint 2 at 0x0001000c\n"),
+        ("c", "once more\nonce more\nonce more\nbreakpoint 2\n0x0001000c loop+8\n     3  bnez a0, loop\n>*   4  li a7, 93\n     5  ecall\n"),
+    ), False),
+    ("what was wrong is said", TRAP, TRAP_BEGINS, (
+        ("c", "load access fault: lw a0, 0(zero) reads 0x00000000, where no memory is\n0x00010004 _start+4\n     1  _start: nop\n>    2  lw a0, 0(zero)\n"),
+    ), False),
+    ("the number of an unknown call is said", CALLS, CALLS_BEGINS, (
+        ("c", "unknown environment call: a7 is 5, and the calls are 1 and 93\n0x00010004 _start+4\n    a7 = 0x00000005  5\n     1  _start: li a7, 5\n>    2  ecall\n"),
+    ), False),
+    ("an ended program says so", COUNT, COUNT_BEGINS, (
+        ("c", "the program ended with exit code 0\n"),
+        ("step", "the program has ended: run begins anew\n"),
+        ("print a0", "the program has ended: run begins anew\n"),
+    ), True),
+    ("it begins anew", COUNT, COUNT_BEGINS, (
+        ("b 3", "breakpoint 1 at 0x00010008\n"),
+        ("c", "breakpoint 1\n0x00010008 loop+4\n    a0 = 0x00000002  2\n     2  loop: addi a0, a0, -1\n>*   3  bnez a0, loop\n     4  li a7, 93\n"),
+        ("run", COUNT_BEGINS),
+        ("c", "breakpoint 1\n0x00010008 loop+4\n    a0 = 0x00000002  2\n     2  loop: addi a0, a0, -1\n>*   3  bnez a0, loop\n     4  li a7, 93\n"),
+    ), False),
+    ("what has no value says what was missing", COUNT, COUNT_BEGINS, (
+        ("print [sp]", "[sp]: 0x00110000 is outside memory\n"),
+        ("x sp 2", "0x00110000 is outside memory\n"),
+        ("xb sp - 2", "0x0010fffe  00 00 ? ? ? ? ? ? ? ? ? ? ? ? ? ?  ................\n"),
+        ("stack", "0x00110000 is outside memory\n"),
+        ("set [8] = 1", "0x00000008 is outside memory\n"),
+        ("print loop + nobody", "nobody is no register and no label\n"),
+        ("print 1 +", "1 +: no expression\n"),
+        ("break nowhere", "breakpoint 1: unknown function\n"),
+        ("break 9", "breakpoint 1: no code at or after this line\n"),
+        ("delete 1", "there is no breakpoint 1\n"),
+        ("undisplay 1", "there is no display 1\n"),
+        ("set zero = 1", "zero and pc cannot be set\n"),
+        ("set nobody = 1", "no such register\n"),
+        ("list nobody", "no such label\n"),
+        ("registers a0 nobody", "    a0 = 0x00000000  0\nnobody is no register\n"),
+        ("back", "nothing before this is recorded\n"),
+        ("contineu", "no such command, column 1\ndid you mean continue? help lists the commands\n"),
+        ("break", "a line, a label or *ADDRESS is missing, column 6\n"),
+        ("help nobody", "no such command: help lists them\n"),
+    ), True),
+)
