@@ -205,6 +205,14 @@ def without_memory_it_ends_with_a_line():
     ends_well_without_memory(lambda environment: debug(typed, SORT, environment=environment), told)
 
 
+def what_help_says_fits_a_window_of_80_columns():
+    with open(os.path.join(TOP, "crates", "console", "src", "help.rt"), encoding="utf-8") as file:
+        words = re.findall(r'"([a-z-]+)"', "".join(re.findall(r"words: &\[(.*)\]", file.read())))
+    expect(len(words) > 40, True, "the words are known")
+    out = debug("".join("help %s\n" % word for word in ["", *words]).encode(), SORT)[0]
+    expect([line for line in out.splitlines() if len(line) > 80], [], "the lines that are too wide")
+
+
 # ---- in a terminal
 
 def a_terminal_has_a_prompt_and_ends_by_the_end_of_its_input():
@@ -308,6 +316,7 @@ def checks():
         output_that_fails_ends_it,
         input_that_fails_ends_it,
         without_memory_it_ends_with_a_line,
+        what_help_says_fits_a_window_of_80_columns,
         a_terminal_has_a_prompt_and_ends_by_the_end_of_its_input,
         enter_pauses_a_program_that_runs,
         a_script_leaves_the_terminal_to_who_sits_there,

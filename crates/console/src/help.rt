@@ -5,27 +5,27 @@ use strsim::osa_distance;
 
 /// All commands, on one screen.
 pub(crate) const ALL: &str = "\
-run (r)                       launches the file as it is now, from its beginning
-continue (c) [N]              on to a breakpoint        step (s), next (n) [N]
-finish (fin) [N]              to the end of the call    stepi (si), nexti (ni) [N]
-back (rsi) [N]                one instruction back
-reverse-continue (rc) [N]     back to a breakpoint      Enter repeats the last move
-change EXPR                   on until the value of EXPR is another one: who did it?
-back-to-change EXPR           the same, back
-break (b) WHERE [if EXPR] [hit N]                       tbreak (tb): once
-log WHERE TEXT                says TEXT there           delete (d) [N]
-breakpoints (i)               shows them
-print (p) EXPR                a value                   print REG = VALUE
-display EXPR                  a value at each stop      undisplay [N]
-set REG = VALUE               sets a register           set [ADDRESS] = VALUE
-registers (regs) [NAME..]     shows them                stack
-x EXPR [N]                    N words of memory         xb EXPR [N]: bytes
-disassemble (disas) [WHERE] [N]                         labels
-backtrace (bt)                the calls                 where (f)
-list (l) [WHERE]              the text                  quit (q)
-WHERE is a line, a label or *ADDRESS. EXPR knows registers, labels, numbers, 'c',
-[ADDRESS] and the operators of C. While the program runs, Enter stops it; Ctrl-C
-ends all. help WORD says more.
+run (r)                    launches the file as it is now, from its beginning
+continue (c) [N]           on to a breakpoint     step (s), next (n) [N]
+finish (fin) [N]           to the end of the call stepi (si), nexti (ni) [N]
+back (rsi) [N]             one instruction back
+reverse-continue (rc) [N]  back to a breakpoint   Enter repeats the last move
+change EXPR                on until EXPR has another value: who did it?
+back-to-change EXPR        the same, back
+break (b) WHERE [if EXPR] [hit N]                 tbreak (tb): once
+log WHERE TEXT             says TEXT there        delete (d) [N]
+breakpoints (i)            shows them
+print (p) EXPR             a value                print REG = VALUE
+display EXPR               a value at each stop   undisplay [N]
+set REG = VALUE            sets a register        set [ADDRESS] = VALUE
+registers (regs) [NAME..]  shows them             stack
+x EXPR [N]                 N words of memory      xb EXPR [N]: bytes
+disassemble (disas) [WHERE] [N]                   labels
+backtrace (bt)             the calls              where (f)
+list (l) [WHERE]           the text               quit (q)
+WHERE is a line, a label or *ADDRESS. EXPR knows registers, labels, numbers,
+'c', [ADDRESS] and the operators of C. While the program runs, Enter stops it;
+Ctrl-C ends all. help WORD says more.
 ";
 
 // What help says of a word: the words for one thing, and the text.
@@ -46,8 +46,8 @@ displays stay. If the file does not assemble, its errors are shown.
     Topic {
         words: &["continue", "c"],
         text: "\
-continue [N]: runs until something stops the program: a breakpoint, an error, its
-end. With N, until that has happened N times at breakpoints.
+continue [N]: runs until something stops the program: a breakpoint, an error,
+its end. With N, until that has happened N times at breakpoints.
     continue
 ",
     },
@@ -68,7 +68,7 @@ next [N]: on to the next line, over calls; N times.
     Topic {
         words: &["finish", "fin"],
         text: "\
-finish [N]: on until the present call has returned; N times. Its value is in a0.
+finish [N]: on until the present call has returned; N times. a0 has its value.
     finish
 ",
     },
@@ -82,8 +82,8 @@ stepi [N], nexti [N]: one instruction on; nexti goes over a call. N times.
     Topic {
         words: &["back", "reverse-stepi", "rsi"],
         text: "\
-back [N]: takes the last instruction back; N times. Registers and memory are then
-as they were before it. The last 65,536 instructions are recorded.
+back [N]: takes the last instruction back; N times. Registers and memory are
+then as they were before it. The last 65,536 instructions are recorded.
     back 2
 ",
     },
@@ -98,9 +98,9 @@ instruction that is recorded.
     Topic {
         words: &["change", "back-to-change"],
         text: "\
-change EXPR, back-to-change EXPR: goes on, or back, one instruction after the other
-until the value of EXPR is another one, and shows the instruction that changed it.
-It gives up after 1,000,000 instructions.
+change EXPR, back-to-change EXPR: goes on, or back, one instruction after the
+other until the value of EXPR is another one, and shows the instruction that
+changed it. It gives up after 1,000,000 instructions.
     back-to-change ra
     change [table + 4]
 ",
@@ -108,8 +108,8 @@ It gives up after 1,000,000 instructions.
     Topic {
         words: &["break", "b", "tbreak", "tb"],
         text: "\
-break WHERE [if EXPR] [hit N]: stops there, if EXPR is not 0, from the Nth time on.
-WHERE is a line, a label or *ADDRESS. tbreak: once, then it is deleted.
+break WHERE [if EXPR] [hit N]: stops there, if EXPR is not 0, from the Nth time
+on. WHERE is a line, a label or *ADDRESS. tbreak: once, then it is deleted.
     break 36 if a0 == 5
     break sort hit 3
     tbreak *0x10010
@@ -139,8 +139,9 @@ breakpoints: shows them with their numbers and addresses.
     Topic {
         words: &["print", "p"],
         text: "\
-print EXPR: its value in hexadecimal and decimal, below zero also with its sign, as
-a character where it is one, and the label that lies there. print REG = VALUE sets.
+print EXPR: its value in hexadecimal and decimal, below zero also with its
+sign, as a character where it is one, and the label that lies there.
+print REG = VALUE sets a register.
     print a0 * 2
     print [sp + 4]
 ",
@@ -162,8 +163,8 @@ undisplay [N]: the display of this number goes, or all.
     Topic {
         words: &["set"],
         text: "\
-set REG = VALUE, set [ADDRESS] = VALUE: sets a register, or a word of memory, to
-the value of an expression.
+set REG = VALUE, set [ADDRESS] = VALUE: sets a register, or a word of memory,
+to the value of an expression.
     set a0 = 5
     set [table] = a0 + 1
 ",
@@ -194,8 +195,8 @@ xb EXPR [N]: bytes, and the characters that they are; 16.
     Topic {
         words: &["disassemble", "disas"],
         text: "\
-disassemble [WHERE] [N]: N instructions from WHERE on, or from pc; 8 where no N is
-given.
+disassemble [WHERE] [N]: N instructions from WHERE on, or from pc; 8 where no N
+is given.
     disas sort 4
 ",
     },
@@ -216,8 +217,8 @@ labels: the labels and their addresses.
     Topic {
         words: &["where", "frame", "f", "list", "l"],
         text: "\
-where: where the program stands, once more. list [WHERE]: the text round WHERE, or
-round there; > is the line where the program stands, * one with a breakpoint.
+where: where the program stands, once more. list [WHERE]: the text round WHERE,
+or round there; > is where the program stands, * a line with a breakpoint.
     list sort
 ",
     },
