@@ -1,5 +1,5 @@
 -- A client that followed a session follows one after each call.
-use Rattle.std.proofs.Common.{◌≡◌, List, [], ◌++◌, Result, Ok, Err, subst, sym, ℕ}
+use Rattle.std.proofs.Common.{◌≡◌, ◌∙◌, ap, List, [], ◌++◌, Result, Ok, Err, subst, sym, ℕ}
 use Rattle.client.specs.Following.{Begins, Calls, GoesOn, Kept, Sends, Takes, taking}
 use Rattle.client.specs.declared.error.SendError.{SendError}
 use Rattle.client.specs.declared.error.SendError.TheVariants as send
@@ -13,6 +13,9 @@ use Rattle.mirror.specs.Kept.{Kept as Mirrored, facts_of}
 use Rattle.std.specs.Prelude.{IfOk}
 use Rattle.console.specs.Following.{IsFollowing}
 use Rattle.console.specs.Screens.{AreKnown, IsTrue}
+use Rattle.console.proofs.Pages.{are_known}
+use Rattle.console.specs.Private.Pages.{pieces_of}
+use Rattle.console.specs.declared.page.Part.{Part}
 use Rattle.console.specs.declared.page.Screen.{Screen}
 
 goes_on : (more : List Happened) (old new : Kept) → GoesOn more old new → IsFollowing old → IsFollowing new
@@ -36,13 +39,21 @@ takes old (Err why) new t f = subst IsFollowing (sym t) f
 pub begins : (size : ℕ) (c : Kept) → Begins size (Ok c) → IsFollowing c
 begins size c (from, b) = (from, (_, b.1))
 
--- what is shown of a mirror is true of the session that its client follows
-pub shows : {E : Type 0} (c : Kept) (path given : List ℕ) (m : Mirrored) (result : Result Screen E) → m ≡ c.mirror → given ≡ path
-    → IsFollowing c → IfOk result (λ screen. AreKnown given (facts_of m.known) screen.pieces.items)
+-- what fills a page, by what is lent of it
+pub fills : {E : Type 0} (c : Kept) (path given : List ℕ) (m : Mirrored) (parts taken : List Part) (result : Result Screen E)
+    → m ≡ c.mirror → given ≡ path → taken ≡ parts → IfOk result (λ screen. screen.pieces.items ≡ pieces_of given (facts_of m.known) taken)
+    → IfOk result (λ screen. screen.pieces.items ≡ pieces_of path (facts_of c.mirror.known) parts)
+fills c path given m parts taken (Ok screen) same is all filled =
+    filled ∙ ap (λ m. pieces_of given (facts_of m.known) taken) same ∙ ap (λ p. pieces_of p (facts_of c.mirror.known) taken) is
+    ∙ ap (pieces_of path (facts_of c.mirror.known)) all
+fills c path given m parts taken (Err why) same is all filled = tt
+
+-- what fills a page is true of the session that the client follows
+pub shows : {E : Type 0} (c : Kept) (path : List ℕ) (parts : List Part) (result : Result Screen E) → IsFollowing c
+    → IfOk result (λ screen. screen.pieces.items ≡ pieces_of path (facts_of c.mirror.known) parts)
     → IfOk result (λ screen. IsTrue c path screen.pieces.items)
-shows c path given m (Ok screen) same is (from, (happened, f)) known = (
-  subst (λ (p : List ℕ). AreKnown p (facts_of c.mirror.known) screen.pieces.items) is
-      (subst (λ (m : Mirrored). AreKnown given (facts_of m.known) screen.pieces.items) same known),
+shows c path parts (Ok screen) (from, (happened, f)) is = (
+  subst (AreKnown path (facts_of c.mirror.known)) (sym is) (are_known path (facts_of c.mirror.known) parts),
   (from, (happened, (f, what_a_client_knows_was_so from happened c f))),
 )
-shows c path given m (Err why) same is follows known = tt
+shows c path parts (Err why) follows is = tt

@@ -6,3 +6,5 @@ pub mod Following
 pub mod Screens
 -- the texts of pieces
 pub mod Texts
+-- what private clauses alone cite
+pub mod Private

@@ -1,5 +1,7 @@
 //! The conversation: what is kept of it, and its calls.
-ghost use Rattle.std.specs.Prelude.{◌≡◌, IfOk, string_bytes};
+ghost use Rattle.std.specs.Prelude.{◌≡◌, [], IfOk, string_bytes};
+ghost use Rattle.mirror.specs.Kept.{facts_of};
+ghost use Rattle.console.specs.Private.Pages.{pieces_of};
 ghost use Rattle.console.specs.Screens.{IsTrue};
 
 use crate::errand::Errand;
@@ -122,10 +124,14 @@ impl Console {
         self.shown()
     }
 
-    // What is to be shown, with the facts that the mirror has.
+    // What is to be shown, with the facts that the mirror has. It waits no more.
     fn shown(&mut self) -> Result<Screen, AllocError>
-        ensures { IfOk result (λ screen.
+        ensures is_true { IfOk result (λ screen.
             IsTrue self.new.link (string_bytes self.new.path) screen.pieces.items) }
+        ensures pieces { IfOk result (λ screen. screen.pieces.items ≡ pieces_of
+            (string_bytes self.new.path) (facts_of self.new.link.mirror.known)
+            self.old.page.parts.items) }
+        ensures left { self.new.page.parts.items ≡ [] }
     {
         let parts = self.page.take();
         filled(self.alloc, self.link.mirror(), self.path.as_bytes(), parts)

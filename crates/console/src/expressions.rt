@@ -5,7 +5,7 @@ use crate::console::Console;
 use crate::piece::address_text;
 use crate::stops::text_of;
 use image::LineTable;
-use protocol::{Command, EvaluateArguments, ReadMemoryArguments, Refusal, Text};
+use protocol::{Command, EvaluateArguments, Refusal};
 use replies::ResponseBody;
 use rv32i::reg_named;
 use std::alloc::{AllocError, Global};
@@ -170,13 +170,7 @@ impl Console {
 
     /// Whether memory has a word at an address; the mirror then has it.
     pub(crate) fn has_word(&mut self, address: u32) -> Result<bool, AllocError> {
-        let memory_reference = Text::from_string(address_text(self.alloc, address)?);
-        let asked = Command::ReadMemory(ReadMemoryArguments {
-            memory_reference,
-            offset: 0,
-            count: 4,
-        });
-        match self.ask(asked)? {
+        match self.ask_memory(address, 4)? {
             Answer::Done(ResponseBody::ReadMemory(body)) => Ok(body.unreadable_bytes == 0),
             _ => Ok(false),
         }

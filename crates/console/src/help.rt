@@ -231,9 +231,13 @@ help [WORD]: this. quit: ends, and the program with it.
     },
 ];
 
+fn topics() -> &'static [Topic] {
+    &TOPICS
+}
+
 /// What help says of a word.
 pub(crate) fn of(word: &str) -> Option<&'static str> {
-    for topic in TOPICS.iter() {
+    for topic in topics() {
         if has(topic.words, word) {
             return Some(topic.text);
         }
@@ -255,7 +259,7 @@ pub(crate) fn nearest(alloc: Global, word: &str) -> Result<Option<&'static str>,
     if word.len() > LONGEST {
         return Ok(None);
     }
-    for topic in TOPICS.iter() {
+    for topic in topics() {
         for known in topic.words.iter() {
             let edits = osa_distance(alloc, word, known)?;
             if edits < least && edits < known.len() {

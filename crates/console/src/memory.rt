@@ -46,14 +46,18 @@ impl Console {
 
     /// Asks for memory. Whether it was read is told; if not, why is said.
     pub(crate) fn read_memory(&mut self, address: u32, count: u32) -> Result<bool, AllocError> {
+        let answer = self.ask_memory(address, count)?;
+        self.is_done_at(address, answer)
+    }
+
+    /// Asks for memory.
+    pub(crate) fn ask_memory(&mut self, address: u32, count: u32) -> Result<Answer, AllocError> {
         let memory_reference = Text::from_string(address_text(self.alloc, address)?);
-        let asked = Command::ReadMemory(ReadMemoryArguments {
+        self.ask(Command::ReadMemory(ReadMemoryArguments {
             memory_reference,
             offset: 0,
             count,
-        });
-        let answer = self.ask(asked)?;
-        self.is_done_at(address, answer)
+        }))
     }
 
     /// Whether a request about memory at this address was done; if not, why is said.

@@ -1,13 +1,17 @@
 //! A page: words, and places for facts, which are filled in from a mirror.
-ghost use Rattle.std.specs.Prelude.{◌≡◌, IfOk, IfSome, slice_get};
+ghost use Rattle.std.specs.Prelude.{◌≡◌, ◌∷◌, ◌++◌, [], IfErr, IfOk, OnOk, slice_get};
 ghost use Rattle.mirror.specs.Kept.{facts_of};
-ghost use Rattle.console.specs.Screens.{AreKnown, HasWord, IsKnown, listed};
+ghost use Rattle.console.specs.Private.Pages as spec;
+ghost use Rattle.console.specs.Screens.{listed};
 
 use crate::piece::{Form, Listed, Piece, Tone};
 use facts::BreakInfo;
 use mirror::Mirror;
 use std::alloc::{AllocError, Global};
 use std::mem;
+
+// The last address at which a word fits.
+const LAST_WORD: u32 = 0xffff_fffc;
 
 /// A part of a page: words, or the place of a fact.
 #[derive(Drop)]
@@ -30,27 +34,39 @@ pub(crate) struct Page {
 
 impl Page {
     /// An empty one. It takes no memory.
-    pub(crate) fn new(alloc: Global) -> Page {
+    pub(crate) fn new(alloc: Global) -> Page
+        ensures { result.parts.items ≡ [] }
+    {
         Page {
             alloc,
             parts: Vec::new(alloc),
         }
     }
 
-    /// Words are added.
-    pub(crate) fn say(&mut self, tone: Tone, words: &str) -> Result<(), AllocError> {
+    /// Words are added. It fails where no memory is left, and then they are not.
+    pub(crate) fn say(&mut self, tone: Tone, words: &str) -> Result<(), AllocError>
+        ensures words { OnOk result (spec.HaveWords tone words.now
+            self.old.parts.items self.new.parts.items) }
+        ensures on_error { IfErr result (λ e. self.new.parts.items ≡ self.old.parts.items) }
+    {
         let words = String::from_str(self.alloc, words)?;
         self.put(Part::Words(tone, words))
     }
 
-    /// A part is added.
-    pub(crate) fn put(&mut self, part: Part) -> Result<(), AllocError> {
+    /// A part is added. It fails where no memory is left, and then it is not.
+    pub(crate) fn put(&mut self, part: Part) -> Result<(), AllocError>
+        ensures part { OnOk result (self.new.parts.items ≡ self.old.parts.items ++ part ∷ []) }
+        ensures on_error { IfErr result (λ e. self.new.parts.items ≡ self.old.parts.items) }
+    {
         self.parts.push(part)?;
         Ok(())
     }
 
     /// The parts, which are its no more.
-    pub(crate) fn take(&mut self) -> Vec<Part> {
+    pub(crate) fn take(&mut self) -> Vec<Part>
+        ensures parts { result.items ≡ self.old.parts.items }
+        ensures left { self.new.parts.items ≡ [] }
+    {
         mem::replace(&mut self.parts, Vec::new(self.alloc))
     }
 }
@@ -77,8 +93,8 @@ pub(crate) fn filled(
     path: &[u8],
     parts: Vec<Part>,
 ) -> Result<Screen, AllocError>
-    ensures { IfOk result (λ screen.
-        AreKnown path.now (facts_of mirror.now.known) screen.pieces.items) }
+    ensures { IfOk result (λ screen. screen.pieces.items
+        ≡ spec.pieces_of path.now (facts_of mirror.now.known) parts.items) }
 {
     let known = Known { mirror, path };
     let mut pieces = Vec::new(alloc);
@@ -98,8 +114,8 @@ struct Known<'a> {
 impl Known<'_> {
     // The piece that a part becomes.
     fn piece(&self, part: Part) -> Result<Piece, AllocError>
-        ensures { IfOk result
-            (IsKnown self.now.path.now (facts_of self.now.mirror.now.known)) }
+        ensures { IfOk result (λ it.
+            it ≡ spec.piece_of self.now.path.now (facts_of self.now.mirror.now.known) part) }
     {
         match part {
             Part::Words(tone, words) => Ok(Piece::Words(tone, words)),
@@ -113,7 +129,8 @@ impl Known<'_> {
     }
 
     fn register(&self, form: Form, number: u32) -> Piece
-        ensures { IsKnown self.now.path.now (facts_of self.now.mirror.now.known) result }
+        ensures { result ≡ spec.piece_of
+            self.now.path.now (facts_of self.now.mirror.now.known) (Part.Register form number) }
     {
         match self.mirror.register(number) {
             Some(value) => Piece::Register(form, number, value),
@@ -122,7 +139,8 @@ impl Known<'_> {
     }
 
     fn word(&self, address: u32) -> Piece
-        ensures { IsKnown self.now.path.now (facts_of self.now.mirror.now.known) result }
+        ensures { result ≡ spec.piece_of
+            self.now.path.now (facts_of self.now.mirror.now.known) (Part.Word address) }
     {
         match word_at(self.mirror, address) {
             Some((first, second, third, fourth)) => {
@@ -133,7 +151,8 @@ impl Known<'_> {
     }
 
     fn byte(&self, address: u32) -> Piece
-        ensures { IsKnown self.now.path.now (facts_of self.now.mirror.now.known) result }
+        ensures { result ≡ spec.piece_of
+            self.now.path.now (facts_of self.now.mirror.now.known) (Part.Byte address) }
     {
         match self.mirror.byte(address) {
             Some(value) => Piece::Byte(address, value),
@@ -142,8 +161,8 @@ impl Known<'_> {
     }
 
     fn frame(&self, index: u32) -> Result<Piece, AllocError>
-        ensures { IfOk result
-            (IsKnown self.now.path.now (facts_of self.now.mirror.now.known)) }
+        ensures { IfOk result (λ it. it ≡ spec.piece_of
+            self.now.path.now (facts_of self.now.mirror.now.known) (Part.Frame index)) }
     {
         match self.mirror.frame(index) {
             Some(frame) => Ok(Piece::Frame(index, frame.clone()?)),
@@ -152,7 +171,8 @@ impl Known<'_> {
     }
 
     fn found(&self, list: Listed, index: usize) -> Piece
-        ensures { IsKnown self.now.path.now (facts_of self.now.mirror.now.known) result }
+        ensures { result ≡ spec.piece_of
+            self.now.path.now (facts_of self.now.mirror.now.known) (Part.Break list index) }
     {
         match break_in(self.mirror, self.path, list, index) {
             Some(found) => Piece::Break(list, index, found),
@@ -163,13 +183,16 @@ impl Known<'_> {
 
 /// The bytes of the word at an address, if all are known.
 pub(crate) fn word_at(mirror: &Mirror, address: u32) -> Option<(u8, u8, u8, u8)>
-    ensures { IfSome result (λ w. HasWord (facts_of mirror.now.known) address w.0 w.1 w.2 w.3) }
+    ensures { result ≡ spec.word_at (facts_of mirror.now.known) address }
 {
+    if address > LAST_WORD {
+        return None;
+    }
     Some((
         mirror.byte(address)?,
-        mirror.byte(address.checked_add(1)?)?,
-        mirror.byte(address.checked_add(2)?)?,
-        mirror.byte(address.checked_add(3)?)?,
+        mirror.byte(address + 1)?,
+        mirror.byte(address + 2)?,
+        mirror.byte(address + 3)?,
     ))
 }
 

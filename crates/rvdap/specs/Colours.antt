@@ -3,6 +3,9 @@
 -- A text in a colour stands between two escape sequences (ECMA-48, section 8.3.117, SELECT GRAPHIC RENDITION). There are none where
 -- standard output is no terminal, and, by the convention of https://no-color.org, where NO_COLOR is set and not empty.
 use Rattle.std.specs.Prelude.{ℕ, Bool, true, false, List, ◌∷◌, ◌++◌, Option, Some, None, codes}
+use Rattle.std.specs.List.{flat_map}
+use Rattle.console.specs.Texts.{text_of, tone_of}
+use Rattle.console.specs.declared.piece.Piece.{Piece}
 use Rattle.console.specs.declared.piece.Tone.{Tone}
 use Rattle.console.specs.declared.piece.Tone.TheVariants.{Plain, Program, Refusal, Here, Fact}
 use Rattle.rvdap.specs.declared.debug.colours.Colours.{Colours}
@@ -37,3 +40,11 @@ marked (Some opening) words = opening ++ words ++ closing
 abbrev pub coloured : Colours → Tone → List ℕ → List ℕ
 coloured Shown tone words = marked (opening_of tone) words
 coloured Absent tone words = words
+
+-- a piece of a screen, as it is written
+abbrev pub written_of : Colours → Piece → List ℕ
+written_of colours piece = coloured colours (tone_of piece) (text_of piece)
+
+-- a screen: its pieces, one after the other
+abbrev pub written : Colours → List Piece → List ℕ
+written colours pieces = flat_map (written_of colours) pieces

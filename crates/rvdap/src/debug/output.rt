@@ -1,4 +1,6 @@
 //! Standard output, where all is shown.
+ghost use Rattle.std.specs.Prelude.{◌≡◌, ◌++◌, IfOk, OnOk, string_bytes};
+ghost use Rattle.rvdap.specs.Colours as spec;
 
 use crate::debug::colours::{Colours, colours_of, push_coloured};
 use crate::debug::origins::{Origin, Peer, echo_of, end_of, peer_of, prompt_of};
@@ -94,7 +96,9 @@ fn refuses_colours(rt: &HostRuntime) -> Result<bool, ExitReason> {
 }
 
 // What is written for pieces.
-fn text_of(alloc: Global, pieces: &[Piece], colours: Colours) -> Result<String, AllocError> {
+fn text_of(alloc: Global, pieces: &[Piece], colours: Colours) -> Result<String, AllocError>
+    ensures { IfOk result (λ text. string_bytes text ≡ spec.written colours pieces.now) }
+{
     let mut text = String::new(alloc);
     for piece in pieces {
         push_piece(alloc, &mut text, piece, colours)?;
@@ -107,7 +111,10 @@ fn push_piece(
     text: &mut String,
     piece: &Piece,
     colours: Colours,
-) -> Result<(), AllocError> {
+) -> Result<(), AllocError>
+    ensures { OnOk result (string_bytes text.new ≡ string_bytes text.old
+        ++ spec.written_of colours piece.now) }
+{
     let words = piece.text(alloc)?;
     push_coloured(text, colours, piece.tone(), words.as_str())
 }

@@ -1,7 +1,8 @@
 use Rattle.mirror.specs.Kept.{facts_of}
+use Rattle.std.proofs.Common.{◌≡◌}
 use Rattle.console.proofs.page.filled.Given as goal
-use Rattle.console.specs.Screens.{AreKnown}
+use Rattle.console.specs.Private.Pages.{pieces_of}
 
--- each piece so far is a fact, or words
+-- each part so far has its piece
 abbrev pub invariant-loop-part : goal.invariant-loop-part
-invariant-loop-part l = AreKnown l.path (facts_of l.mirror.known) l.pieces.items
+invariant-loop-part l = l.pieces.items ≡ pieces_of l.path (facts_of l.mirror.known) l.yielded
