@@ -59,6 +59,11 @@ make("out/incremental/kept", name)
 if name != os.environ.get("SILENT"):
     print("rt: chose --jobs 1 for %s\\nso far: 1 of 2 functions" % name, flush=True)
 time.sleep(float(os.environ.get("SECONDS_" + name, 0.05)))
+for _ in range(2000 if "MEETS_" + name in os.environ else 0):
+    with open(os.environ["NOTES"]) as file:
+        if "begin %s " % os.environ["MEETS_" + name] in file.read():
+            break
+    time.sleep(0.01)
 if os.environ.get("FAILS") == name:
     for number in range(60):
         print("fn %s::f%d: not proved" % (name, number))
@@ -139,7 +144,7 @@ def each_crate_after_those_below_it():
 
 def two_side_by_side():
     with repository() as top:
-        proved(top, SECONDS_b="0.5", SECONDS_c="0.5")
+        proved(top, MEETS_b="c", MEETS_c="b")
         seen = notes(top)
         between = seen[seen.index(("end", "a")) + 1:seen.index(("begin", "d"))]
         expect([word for word, _ in between], ["begin", "begin", "end", "end"], "b and c, between a and d")
