@@ -25,6 +25,16 @@ CALLS_BEGINS = "0x00010000 _start\n>    1  _start: li a7, 5\n     2  ecall\n"
 OVER = b"_start: la t0, target\nsw zero, 0(t0)\ntarget: nop\n"
 OVER_BEGINS = "0x00010000 _start\n>    1  _start: la t0, target\n     2  sw zero, 0(t0)\n"
 
+# Calls itself 23 times, and then has 25 frames.
+DEEP = b"_start: li a0, 23\ncall down\nli a7, 93\necall\ndown: beqz a0, bottom\naddi a0, a0, -1\ncall down\nret\nbottom: nop\nret\n"
+DEEP_BEGINS = "0x00010000 _start\n>    1  _start: li a0, 23\n     2  call down\n"
+
+# Counts for ever.
+UP = b"_start: addi t0, t0, 1\nj _start\n"
+UP_BEGINS = "0x00010000 _start\n>    1  _start: addi t0, t0, 1\n     2  j _start\n"
+WORDS = "0x00010000  0x00128293 0xffdff06f 0x00000000 0x00000000\n"
+ZEROS = "".join("0x%08x  0x00000000 0x00000000 0x00000000 0x00000000\n" % place for place in range(0x10010, 0x20000, 16))
+
 # The program, its first screen, and lines with what is shown for each; whether a line is refused.
 TRANSCRIPTS = (
     ("steps show what changed", COUNT, COUNT_BEGINS, (
@@ -46,6 +56,20 @@ TRANSCRIPTS = (
         ("breakpoints", "   2  0x0001000c  line 4\n"),
         ("delete", ""),
         ("breakpoints", "no breakpoints\n"),
+    ), False),
+    ("a breakpoint is deleted by its number here, and not by that in the session", COUNT, COUNT_BEGINS, (
+        ("break 2", "breakpoint 1 at 0x00010004\n"),
+        ("break 4", "breakpoint 2 at 0x0001000c\n"),
+        ("delete 2", ""),
+        ("breakpoints", "   1  0x00010004  line 2\n"),
+        ("delete 1", ""),
+        ("continue", "the program ended with exit code 0\n"),
+    ), False),
+    ("calls are shown, 20 at most", DEEP, DEEP_BEGINS, (
+        ("break bottom", "breakpoint 1 at 0x00010028\n"),
+        ("c", "breakpoint 1\n0x00010028 bottom\n    ra = 0x00010024  65572  down+16\n     8  ret\n>*   9  bottom: nop\n    10  ret\n"),
+        ("bt", "#0   0x00010028 bottom  line 9  bottom: nop\n"
+         + "".join("#%-3d 0x00010020 down+12  line 7  call down\n" % number for number in range(1, 20)) + "and 5 more\n"),
     ), False),
     ("values are shown in each form, with the label that lies there", STORE, STORE_BEGINS, (
         ("print [table]", "0x00000041  65  'A'\n"),
@@ -106,6 +130,20 @@ TRANSCRIPTS = (
         ("run", COUNT_BEGINS),
         ("c", "breakpoint 1\n0x00010008 loop+4\n    a0 = 0x00000002  2\n     2  loop: addi a0, a0, -1\n>*   3  bnez a0, loop\n     4  li a7, 93\n"),
     ), False),
+    ("so much and no more is shown or moved at once", UP, UP_BEGINS, (
+        ("x _start 16384", WORDS + ZEROS),
+        ("x _start 16385", "at most 65,536 bytes at once\n"),
+        ("xb _start 65537", "at most 65,536 bytes at once\n"),
+        ("change a0", "unchanged after 1,000,000 instructions\npaused\n0x00010000 _start\n    t0 = 0x0007a120  500000\n"
+         ">    1  _start: addi t0, t0, 1\n     2  j _start\n"),
+    ), True),
+    ("1,024 breakpoints at addresses and no more, and one that is refused is forgotten", UP, UP_BEGINS, (
+        *(("break *65536", "breakpoint %d at 0x00010000\n" % number) for number in range(1, 1025)),
+        ("break *65536", "too much at once: 1,024 breakpoints, 65,536 bytes, 4,096 instructions\n"),
+        ("delete 1024", ""),
+        ("break *65536", "breakpoint 1025 at 0x00010000\n"),
+        ("delete 1026", "there is no breakpoint 1026\n"),
+    ), True),
     ("what has no value says what was missing", COUNT, COUNT_BEGINS, (
         ("print [sp]", "[sp]: 0x00110000 is outside memory\n"),
         ("x sp 2", "0x00110000 is outside memory\n"),
