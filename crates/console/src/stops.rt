@@ -89,13 +89,18 @@ impl Console {
     fn at_place(&mut self, place: &Place<'_>) -> Result<Option<At>, AllocError> {
         match place {
             Place::Line(line) => Ok(Some(At::Line(*line))),
-            Place::Label(label) => {
-                Ok(Some(At::Label(String::from_str(self.alloc, label.as_str())?)))
-            }
+            Place::Label(label) => self.at_label(label.as_str()),
             Place::Address(text) => match self.value_of(text.as_str())? {
                 Some(address) => Ok(Some(At::Address(address))),
                 None => Ok(None),
             },
+        }
+    }
+
+    fn at_label(&mut self, label: &str) -> Result<Option<At>, AllocError> {
+        match self.address_of_label(label)? {
+            Some(_) => Ok(Some(At::Label(String::from_str(self.alloc, label)?))),
+            None => Ok(None),
         }
     }
 

@@ -159,30 +159,33 @@ impl Console {
     /// The address of a place. Where it has none, why is said.
     pub(crate) fn address_of(&mut self, place: &Place<'_>) -> Result<Option<u32>, AllocError> {
         match place {
-            Place::Line(line) => self.known_address(
-                self.bound(*line),
-                "no code at or after this line",
-            ),
-            Place::Label(label) => {
-                self.known_address(self.label_address(label.as_str()), "no such label")
-            }
+            Place::Line(line) => self.bound(*line),
+            Place::Label(label) => self.address_of_label(label.as_str()),
             Place::Address(text) => self.value_of(text.as_str()),
         }
     }
 
-    // The address of the first line from one on that has code.
-    fn bound(&self, line: u32) -> Option<u32> {
+    // The address of the first line from one on that has code. Where there is none, why is said.
+    fn bound(&mut self, line: u32) -> Result<Option<u32>, AllocError> {
+        let address = self.address_after(line);
+        if address.is_none() {
+            self.refuse("no code at or after this line")?;
+        }
+        Ok(address)
+    }
+
+    fn address_after(&self, line: u32) -> Option<u32> {
         let (_, address) = self.lines()?.bind(line)?;
         Some(address)
     }
 
-    fn known_address(
-        &mut self,
-        address: Option<u32>,
-        why: &str,
-    ) -> Result<Option<u32>, AllocError> {
+    /// The address of a label. If there is none of this name, that is said.
+    pub(crate) fn address_of_label(&mut self, name: &str) -> Result<Option<u32>, AllocError> {
+        let address = self.label_address(name);
         if address.is_none() {
-            self.refuse(why)?;
+            let alloc = self.alloc;
+            let words = format!(in alloc; "{name} is no label")?;
+            self.refuse(words.as_str())?;
         }
         Ok(address)
     }
