@@ -231,6 +231,7 @@ help [WORD]: this. quit: ends, and the program with it.
     },
 ];
 
+// All of them. A call, so that a proof about one who looks through them holds none of their texts.
 fn topics() -> &'static [Topic] {
     &TOPICS
 }
