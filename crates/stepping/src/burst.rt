@@ -2,7 +2,7 @@
 
 ghost use Rattle.std.specs.Prelude.{◌≡◌, ◌+◌, ◌^◌, ◌≤◌, ℕ};
 ghost use Rattle.std.specs.Bool.{OnFalse};
-ghost use Rattle.stepping.specs.Private.Bursts.{Bursts, IsFar, moved_by};
+ghost use Rattle.stepping.specs.Private.Bursts.{Bursts, HasNone, IsFar, moved_by};
 
 use breakpoints::Breaks;
 use course::{Calls, Course};
@@ -44,30 +44,32 @@ impl Burst {
 }
 
 /// Executes at most `most` instructions, from the hart's pc on, up to the first that leads to a breakpoint, or to where fewer
-/// calls are open than `reach`. The hart's pc stays: it is answered where it would be. Whether there is anything to look for is
-/// decided once.
+/// calls are open than `reach`. The hart's pc stays: it is answered where it would be. What there is to look for is decided once.
 pub(crate) fn retire(course: &mut Course, breaks: &Breaks, reach: u64, most: u32) -> Burst
     requires { course.old.now.calls.depth + most ≤ 2 ^ 62 }
     ensures { Bursts most breaks.now reach course.old result course.new }
 {
-    if watches(breaks, reach) {
-        retire_by::<true>(course, breaks, reach, most)
+    if reach > 0 {
+        retire_by::<true, true>(course, breaks, reach, most)
+    } else if has_some(breaks) {
+        retire_by::<true, false>(course, breaks, reach, most)
     } else {
-        retire_by::<false>(course, breaks, reach, most)
+        retire_by::<false, false>(course, breaks, reach, most)
     }
 }
 
-// The same, where there is something to look for, and where there is nothing. These two are the loops in which a program runs. So
-// `quick` is called here alone, which makes it part of them, and pc is kept apart.
+// The same, where there are breakpoints to look for or none, and calls to count or none. These are the loops in which a program runs.
+// So `quick` is called here alone, which makes it part of them, and pc is kept apart.
 #[inline(never)]
-fn retire_by<const WATCHES: bool>(
+fn retire_by<const BREAKS: bool, const CALLS: bool>(
     course: &mut Course,
     breaks: &Breaks,
     reach: u64,
     most: u32,
 ) -> Burst
     requires few { course.old.now.calls.depth + most ≤ 2 ^ 62 }
-    requires far { OnFalse WATCHES ((pc depth : ℕ) → IsFar breaks.now reach pc depth) }
+    requires none { OnFalse BREAKS ((pc : ℕ) → HasNone breaks.now pc) }
+    requires deep { OnFalse CALLS (reach ≤ 0) }
     ensures { Bursts most breaks.now reach course.old result course.new }
 {
     let mut pc = course.hart().pc;
@@ -75,7 +77,7 @@ fn retire_by<const WATCHES: bool>(
         match course.quick(pc) {
             Ok(next) => {
                 pc = next;
-                if WATCHES && is_near(breaks, course.calls(), reach, pc) {
+                if is_near::<BREAKS, CALLS>(breaks, course.calls(), reach, pc) {
                     let ending = BurstEnd::Near;
                     return Burst { went, pc, ending };
                 }
@@ -93,17 +95,24 @@ fn retire_by<const WATCHES: bool>(
     }
 }
 
-// Whether there is anything to look for.
-fn watches(breaks: &Breaks, reach: u64) -> bool
-    ensures { OnFalse result ((pc depth : ℕ) → IsFar breaks.now reach pc depth) }
+// Whether there is a breakpoint anywhere.
+fn has_some(breaks: &Breaks) -> bool
+    ensures { OnFalse result ((pc : ℕ) → HasNone breaks.now pc) }
 {
-    reach > 0 || breaks.has_any()
+    breaks.has_any()
 }
 
 // Whether there may be something to see at an address.
 #[inline(always)]
-fn is_near(breaks: &Breaks, calls: &Calls, reach: u64, pc: u32) -> bool
+fn is_near<const BREAKS: bool, const CALLS: bool>(
+    breaks: &Breaks,
+    calls: &Calls,
+    reach: u64,
+    pc: u32,
+) -> bool
+    requires none { OnFalse BREAKS ((pc : ℕ) → HasNone breaks.now pc) }
+    requires deep { OnFalse CALLS (reach ≤ 0) }
     ensures { OnFalse result (IsFar breaks.now reach pc calls.now.depth) }
 {
-    breaks.has(pc) || calls.depth() < reach
+    BREAKS && breaks.has(pc) || CALLS && calls.depth() < reach
 }

@@ -16,9 +16,13 @@ use Rattle.stepping.specs.declared.burst.Burst.{Burst}
 use Rattle.stepping.specs.declared.burst.BurstEnd.{BurstEnd}
 use Rattle.stepping.specs.declared.burst.BurstEnd.TheVariants.{Spent, Near, Halted}
 
--- no breakpoint is at an address, and enough calls are open to keep the goal out of reach
+-- no breakpoint is at an address
+abbrev pub HasNone : Lists → ℕ → Type 0
+HasNone lists pc = is_among pc lists.source lists.instructions lists.functions ≡ false
+
+-- none is there, and enough calls are open to keep the goal out of reach
 pub record IsFar (lists : Lists) (reach pc depth : ℕ) : Type 0 where
-  pub none : is_among pc lists.source lists.instructions lists.functions ≡ false
+  pub none : HasNone lists pc
   pub deep : reach ≤ depth
 
 -- this many instructions retire one after the other, and each leads to a place with nothing to report

@@ -1,7 +1,6 @@
 use Rattle.stepping.proofs.Common.{ap, arith, IsFar, Kept, refl, Retire, subst, ℕ, ◌∙◌, ◌≡◌}
 use Rattle.stepping.proofs.Bursting.{retire_more, retires_deeper}
 use Rattle.stepping.proofs.burst.retire_by.Goals as goal
-use Rattle.stepping.proofs.burst.retire_by.Goals.{else-this-ne0-via-then-this-ne0+else-is_near, else-this-ne0-via-else-this-ne0}
 
 pub returns-then-is_near : goal.returns-then-is_near
 returns-then-is_near g c = record {
@@ -23,11 +22,8 @@ returns-in-Err g c = record {
 
 pub loop-went-preserved : goal.loop-went-preserved
 loop-went-preserved g c =
-    let far : IsFar c.args.breaks.now c.args.reach c.in-Ok.next c.quick.new.self.now.calls.depth = elim c.else-this-ne0.branch [
-      | else-this-ne0-via-then-this-ne0+else-is_near w ↦
-          subst (λ (k : Kept). IsFar c.args.breaks.now c.args.reach c.in-Ok.next k.depth) w.calls.ensures w.if-is_near.ensures
-      | else-this-ne0-via-else-this-ne0 w ↦ (rw w.if-this-ne0.false at c.requires.far) c.in-Ok.next c.quick.new.self.now.calls.depth
-    ] in
+    let far : IsFar c.args.breaks.now c.args.reach c.in-Ok.next c.quick.new.self.now.calls.depth =
+    subst (λ (k : Kept). IsFar c.args.breaks.now c.args.reach c.in-Ok.next k.depth) c.calls.ensures c.if-is_near.ensures in
     record {
       retire =
           retire_more c.loop-went.went _ _ _ c.loop-went.pc c.in-Ok.next _ c.loop-went.course c.quick.new.self c.loop-went.invariant.retire c.in-Ok.ensures far;
