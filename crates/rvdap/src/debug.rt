@@ -79,7 +79,9 @@ fn debug_with(rt: &HostRuntime, conversation: &mut Conversation<'_>) -> ExitCode
 
 // Holds a conversation. To drop a console is dear to prove, so it's done here alone, where there is one way out.
 fn hold(conversation: &mut Conversation<'_>, mut console: Console) -> Result<(), ExitReason> {
-    conversation.hold(&mut console)
+    let end = conversation.hold(&mut console);
+    drop(console);
+    end
 }
 
 // The status of a conversation, with a line on standard error where it ended badly.
