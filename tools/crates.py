@@ -28,7 +28,8 @@ def texts_of(folder):
 
 
 def size_of(folder):
-    return sum(map(os.path.getsize, texts_of(folder)))
+    """How much code a crate has: what its proof takes grows with that, more than with its proofs."""
+    return sum(os.path.getsize(path) for path in texts_of(folder) if path.startswith(os.path.join(folder, "src")))
 
 
 def sum_of(folder, more):
@@ -49,7 +50,7 @@ def sums_of(top, table, names, kit):
 
 
 def longest_first(top, table, names, waiting):
-    """Those that wait of these crates, given lowest first. First are those with the most text on their way up to the last:
+    """Those that wait of these crates, given lowest first. First are those with the most code on their way up to the last:
     they hold up the most."""
     weights = {}
     for name in reversed(names):
