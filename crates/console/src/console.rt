@@ -1,5 +1,6 @@
 //! The conversation: what is kept of it, and its calls.
-ghost use Rattle.std.specs.Prelude.{◌≡◌, [], IfOk, string_bytes};
+ghost use Rattle.std.specs.Prelude.{◌≡◌, [], Err, IfErr, IfOk, Ok, string_bytes};
+ghost use Rattle.client.specs.Following.{Begins};
 ghost use Rattle.mirror.specs.Kept.{facts_of};
 ghost use Rattle.console.specs.Private.Pages.{pieces_of};
 ghost use Rattle.console.specs.Screens.{IsTrue};
@@ -63,7 +64,12 @@ impl Console {
     /// One for the program in the file of this path, with this much memory, in bytes. It waits for the file.
     ///
     /// `BadMemorySize`: memory cannot have that size (a multiple of 4,096 from 4,096 to 16,777,216).
-    pub fn new(alloc: Global, path: String, memory_size: u32) -> Result<Console, ConfigError> {
+    pub fn new(alloc: Global, path: String, memory_size: u32) -> Result<Console, ConfigError>
+        ensures begins { IfOk result (λ console. Begins memory_size (Ok console.link)) }
+        ensures path { IfOk result (λ console. string_bytes console.path ≡ string_bytes path) }
+        ensures waits { IfOk result (λ console. console.waits ≡ Waits.File) }
+        ensures err { IfErr result (λ why. Begins memory_size (Err why)) }
+    {
         match Link::new(alloc, memory_size) {
             Ok(link) => Ok(begun(alloc, link, path, memory_size)),
             Err(error) => {
@@ -138,7 +144,11 @@ impl Console {
     }
 }
 
-fn begun(alloc: Global, link: Link, path: String, memory_size: u32) -> Console {
+fn begun(alloc: Global, link: Link, path: String, memory_size: u32) -> Console
+    ensures link { result.link ≡ link }
+    ensures path { string_bytes result.path ≡ string_bytes path }
+    ensures waits { result.waits ≡ Waits.File }
+{
     Console {
         alloc,
         link,

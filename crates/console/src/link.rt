@@ -1,5 +1,6 @@
 //! The client through which a session is asked, and that it follows.
 ghost use Rattle.std.specs.Prelude.{◌≡◌};
+ghost use Rattle.client.specs.Following.{Begins};
 ghost use Rattle.console.specs.Following.{IsFollowing};
 
 use client::{Client, SendError};
@@ -35,7 +36,9 @@ impl Link {
     /// One of a new session with this much memory, in bytes.
     ///
     /// `BadMemorySize`: memory cannot have that size.
-    pub(crate) fn new(alloc: Global, memory_size: u32) -> Result<Link, ConfigError> {
+    pub(crate) fn new(alloc: Global, memory_size: u32) -> Result<Link, ConfigError>
+        ensures { Begins memory_size result }
+    {
         let client = Client::new(alloc, memory_size)?;
         Ok(Link { client })
     }
