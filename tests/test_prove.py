@@ -162,7 +162,7 @@ def the_crate_that_holds_up_most_gets_all_processors_and_the_others_give_way():
 def a_line_for_each_crate_and_a_log():
     with repository() as top:
         lines = proved(top)[0].splitlines()
-        forms = [r"Proving 5 crates, 2 side by side\. .* on four cores; .*",
+        forms = [r"Proving 5 crates, 2 side by side\. .* an hour or so on four cores; .*",
                  r"Meanwhile README\.md .* build/prove\.log\."]
         forms += [r"\[ %d/5\] (%s) +2 functions  0:\d\d" % it for it in enumerate(("a", "b|c", "b|c", "d", "rvdap"), 1)]
         expect(len(lines), len(forms), "how many lines there are in %s" % lines)

@@ -19,9 +19,9 @@ def below(table, name):
     return found
 
 
-def texts_of(folder):
-    """The files that a crate is proved from."""
-    for part in ("src", "specs", "proofs"):
+def texts_of(folder, parts=("src", "specs", "proofs")):
+    """The files that a crate is proved from, or those of some of its parts."""
+    for part in parts:
         for place, folders, names in os.walk(os.path.join(folder, part)):
             folders.sort()
             yield from (os.path.join(place, name) for name in sorted(names))
@@ -29,7 +29,7 @@ def texts_of(folder):
 
 def size_of(folder):
     """How much code a crate has: what its proof takes grows with that, more than with its proofs."""
-    return sum(os.path.getsize(path) for path in texts_of(folder) if path.startswith(os.path.join(folder, "src")))
+    return sum(map(os.path.getsize, texts_of(folder, ("src",))))
 
 
 def sum_of(folder, more):

@@ -77,7 +77,7 @@ fn debug_with(rt: &HostRuntime, conversation: &mut Conversation<'_>) -> ExitCode
     }
 }
 
-// Holds a conversation. To drop a console is dear to prove, so it's done here alone, where there is one way out.
+// Holds a conversation. To drop a console is dear to prove, so it's done here alone, and by a call.
 fn hold(conversation: &mut Conversation<'_>, mut console: Console) -> Result<(), ExitReason> {
     let end = conversation.hold(&mut console);
     drop(console);

@@ -49,16 +49,14 @@ pub(crate) fn listen_verbosely<R: Recorder>(
     say(rt, format_args!("listening on {local}\n"));
     let mut heard = VerboseDoor::new(rt, door, BODY_LIMIT);
     let mut disk = Disk::new(rt);
-    let reason = serve_accepted(
+    serve_accepted(
         rt.alloc(),
         session,
         &mut heard,
         &mut disk,
         recorder,
         editors,
-    );
-    drop(heard);
-    reason
+    )
 }
 
 fn open(rt: &HostRuntime, address: &str) -> io::Result<TcpDoor> {
