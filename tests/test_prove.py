@@ -1,5 +1,6 @@
 """tools/prove, with a stand-in for `rt`, which proves nothing: it waits a little, makes files and prints lines as `rt` does."""
 import glob
+import importlib.machinery
 import os
 import pty
 import re
@@ -150,19 +151,24 @@ def two_side_by_side():
         expect([word for word, _ in between], ["begin", "begin", "end", "end"], "b and c, between a and d")
 
 
-def the_crate_that_holds_up_most_gets_all_processors_and_the_others_give_way():
+def the_two_crates_that_hold_up_most_get_most_processors_and_the_others_give_way():
     with repository() as top:
         proved(top)
         said = text_of(top, "../notes.share").split()
         shares = {name: (jobs, int(nice) > os.nice(0)) for name, jobs, nice in zip(said[::3], said[1::3], said[2::3])}
-        whole = ("2", False)
-        expect(shares, {"a": whole, "b": whole, "c": ("1", True), "d": whole, "rvdap": whole}, "the jobs of each, and whether it gives way")
+        whole, half = ("2", False), ("1", False)
+        expect(shares, {"a": whole, "b": whole, "c": half, "d": whole, "rvdap": whole}, "the jobs of each, and whether it gives way")
+    prove = importlib.machinery.SourceFileLoader("prove", os.path.join(TOP, "tools", "prove")).load_module()
+    four = prove.Proofs({}, {}, ["a", "b", "c", "d"], [], 4, None)
+    four.working = ["d", "c", "b", "a"]
+    expect([four.words(name)[-1] for name in four.order], ["4", "2", "1", "1"], "the jobs of four side by side")
+    expect([four.words(name)[0] for name in four.order], ["rt", "rt", "nice", "nice"], "which of four give way")
 
 
 def a_line_for_each_crate_and_a_log():
     with repository() as top:
         lines = proved(top)[0].splitlines()
-        forms = [r"Proving 5 crates, 2 side by side\. .* an hour or so on four cores; .*",
+        forms = [r"Proving 5 crates, 2 side by side\. .* an hour or more on four cores; .*",
                  r"Meanwhile README\.md .* build/prove\.log\."]
         forms += [r"\[ %d/5\] (%s) +2 functions  0:\d\d" % it for it in enumerate(("a", "b|c", "b|c", "d", "rvdap"), 1)]
         expect(len(lines), len(forms), "how many lines there are in %s" % lines)
@@ -312,7 +318,7 @@ def the_program_stands_on_its_crates():
 
 def checks():
     return [("tools/prove: " + check.__name__.replace("_", " "), check) for check in (
-        each_crate_after_those_below_it, two_side_by_side, the_crate_that_holds_up_most_gets_all_processors_and_the_others_give_way,
+        each_crate_after_those_below_it, two_side_by_side, the_two_crates_that_hold_up_most_get_most_processors_and_the_others_give_way,
         a_line_for_each_crate_and_a_log, a_crate_of_which_nothing_is_said_is_unchanged, a_line_that_moves_on_a_terminal, a_failure_shows_its_last_lines,
         what_is_proved_stays_so, an_interrupt_leaves_what_is_proved, one_at_a_time_in_a_checkout,
         as_many_as_the_machine_has_room_for, a_word_that_is_none_is_refused, another_kit_is_told, the_documents_name_one_kit,
