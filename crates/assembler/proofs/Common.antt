@@ -15,7 +15,8 @@ pub use Rattle.rv32i.specs.Encoding.{Encodes}
 pub use Rattle.rv32i.specs.declared.instr.Instr.{Instr}
 pub use Rattle.statements.specs.Operations.{branch_instruction, immediate_instruction, lower_part, store_instruction, upper_part}
 pub use Rattle.statements.specs.Reading.{line_of, meaning, read, said, said_at, said_by, statement_in, stating}
-pub use Rattle.statements.specs.Spelling.{is_name, named, parted, stripped}
+pub use Rattle.byte_strings.specs.Fields.{parted}
+pub use Rattle.statements.specs.Spelling.{is_name, named, stripped}
 pub use Rattle.statements.specs.declared.error.LineError.{LineError}
 pub use Rattle.statements.specs.declared.line.Line.{Line}
 pub use Rattle.statements.specs.declared.operations.Condition.{Condition}

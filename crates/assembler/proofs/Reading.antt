@@ -1,12 +1,14 @@
 -- Lines that are read one by one.
-use Rattle.assembler.proofs.Common.{[], after, ap, append-nil, append_assoc, arith, AsmError, at, at_drop_all, at_drop_more, Bool, drop, Err, error_in, false, false_from_ne_true, get_or, IfSome, is_utf8, IsUtf8, kept, length, Line, line_at, line_then, LineError, lines, List, nat_lt, nat_tests, Ok, read, read_by, read_lines, refl, Reports, Result, says_nothing, Some, Source, sym, text_limit, true, ℕ, ◌++◌, ◌+◌, ◌<◌, ◌∙◌, ◌≡◌, ◌≤◌}
+use Rattle.assembler.proofs.Common.{[], after, ap, append-nil, append_assoc, arith, AsmError, at, Bool, Err, error_in, false, false_from_ne_true, IfSome, is_utf8, IsUtf8, kept, length, Line, line_at, line_then, LineError, lines, List, nat_lt, nat_tests, Ok, read, read_by, read_lines, refl, Result, says_nothing, Some, Source, sym, text_limit, true, ℕ, ◌++◌, ◌+◌, ◌<◌, ◌==◌, ◌∙◌, ◌∷◌, ◌≡◌, ◌≤◌}
+use Rattle.byte_strings.proofs.Divided.{fields_none, fields_some, shape}
+use Rattle.byte_strings.specs.Fields.{parted}
+use Rattle.std.specs.Str.Lines.{strip_carriage_return}
 use Rattle.std.specs.Prelude.{Option, None}
 use Rattle.std.specs.Str.Lossy.{utf8_valid_len}
 use Rattle.std.proofs.lemmas.Str.{IsUtf8-from_is_utf8, is_utf8-from_IsUtf8}
 use Rattle.assembler.specs.Program.{read_text, whole_error}
 use Rattle.assembler.specs.declared.error.AsmErrorKind.TheVariants as k
 use Rattle.assembler.specs.Private.Steps.{said}
-use Rattle.assembler.proofs.Reporting.{reports_weaker}
 
 kept_before : (number : ℕ) (line : Line) (others : List Source) → kept number line others ≡ kept number line [] ++ others
 kept_before number line others =
@@ -26,34 +28,28 @@ one_more number (Ok line) before now (Ok others) h =
     ap (λ (l : List Source). Ok (before ++ l)) (kept_before number line others)
     ∙ ap Ok (sym (append_assoc before (kept number line []) others)) ∙ ap (λ (l : List Source). Ok (l ++ others)) same
 
-pub line_more : (all : Result (List Source) AsmError) (texts : List (List ℕ)) (number : ℕ) (text : List ℕ) (before now : List Source)
-    → all ≡ after before (read_lines (number + 1) (drop number texts)) → (number < length texts) × (text ≡ get_or texts number text)
-    → after before (said (number + 1) (read text)) ≡ Ok now → all ≡ after now (read_lines (number + 1 + 1) (drop (number + 1) texts))
-line_more all texts number text before now h here made =
-    h ∙ ap (after before)
-    (at_drop_more (read_lines (number + 1)) texts number text here.0
-    ∙ ap (λ t. line_then (number + 1) (read t) (read_lines (number + 1 + 1) (drop (number + 1) texts))) (sym here.1))
-    ∙ one_more (number + 1) (read text) before now (read_lines (number + 1 + 1) (drop (number + 1) texts)) made
-
-error_more : (number : ℕ) (line : Result Line LineError) (before : List Source) (rest : Result (List Source) AsmError) (error : AsmError)
-    → error_in (said number line) ≡ Some error → error_in (after before (line_then number line rest)) ≡ Some error
-error_more number (Err e) before rest error h = h
-error_more number (Ok line) before rest error h = cc
-
-pub line_wrong : (all : Result (List Source) AsmError) (texts : List (List ℕ)) (number : ℕ) (text : List ℕ) (before : List Source) (error : AsmError)
-    → all ≡ after before (read_lines (number + 1) (drop number texts)) → (number < length texts) × (text ≡ get_or texts number text)
-    → Reports error (error_in (said (number + 1) (read text))) → Reports error (error_in all)
-line_wrong all texts number text before error h here reported =
-    let same = h ∙ ap (after before)
-    (at_drop_more (read_lines (number + 1)) texts number text here.0
-    ∙ ap (λ t. line_then (number + 1) (read t) (read_lines (number + 1 + 1) (drop (number + 1) texts))) (sym here.1)) in
-    reports_weaker error (error_in (said (number + 1) (read text))) (error_in all) reported
-    (λ e. ap error_in same ∙ error_more (number + 1) (read text) before (read_lines (number + 1 + 1) (drop (number + 1) texts)) error e)
+pub line_more : (all : Result (List Source) AsmError) (texts others : List (List ℕ)) (number : ℕ) (text : List ℕ) (before now : List Source)
+    → all ≡ after before (read_lines number texts) → texts ≡ text ∷ others → after before (said number (read text)) ≡ Ok now
+    → all ≡ after now (read_lines (number + 1) others)
+line_more all texts others number text before now h here made =
+    h ∙ ap (λ t. after before (read_lines number t)) here ∙ one_more number (read text) before now (read_lines (number + 1) others) made
 
 pub lines_all : (all : Result (List Source) AsmError) (texts : List (List ℕ)) (number : ℕ) (before : List Source)
-    → all ≡ after before (read_lines (number + 1) (drop number texts)) → number ≡ length texts → all ≡ Ok before
-lines_all all texts number before h same =
-    h ∙ ap (after before) (at_drop_all (read_lines (number + 1)) texts number (omega arith)) ∙ ap Ok (append-nil before)
+    → all ≡ after before (read_lines number texts) → texts ≡ [] → all ≡ Ok before
+lines_all all texts number before h none = h ∙ ap (λ t. after before (read_lines number t)) none ∙ ap Ok (append-nil before)
+
+-- ---- the lines of a text
+
+pub first_of_lines : (text line after : List ℕ) → parted 10 text ≡ Some (line, after) → lines text ≡ strip_carriage_return line ∷ lines after
+first_of_lines text line after h =
+    let rest = shape 10 after in rw (fields_some 10 text line after h, rest.2) refl
+
+pub no_line : (text : List ℕ) → true ≡ (length text == 0) → lines text ≡ []
+no_line [] none = refl
+no_line (byte ∷ text) none = absurd (grind (arith, nat_tests))
+
+pub only_line : (text : List ℕ) → 0 < length text → parted 10 text ≡ None → lines text ≡ text ∷ lines []
+only_line text some h = let test : (length text == 0) ≡ false = grind (arith, nat_tests) in rw (fields_none 10 text h, test) refl
 
 -- ---- the text as a whole
 

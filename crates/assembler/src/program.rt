@@ -1,12 +1,13 @@
 //! A text to the lines that say something.
-ghost use Rattle.std.specs.Prelude.{◌≡◌, ◌≤◌, ◌<◌, ◌+◌, ◌^◌, ◌++◌, [], Ok, Err, Result, length, IfSome, MatchResult, OnOk, IfErr};
-ghost use Rattle.std.specs.Str.Lines.{lines};
+ghost use Rattle.std.specs.Prelude.{◌≡◌, ◌≤◌, ◌<◌, ◌+◌, ◌^◌, ◌++◌, ◌∷◌, [], Ok, Err, Result, length, IfSome, MatchResult, OnOk, IfErr};
+ghost use Rattle.std.specs.Str.Lines.{lines, strip_carriage_return};
 ghost use Rattle.statements.specs.Reading.{read};
 ghost use Rattle.assembler.specs.Errors.{error_in, no_memory, Reports};
 ghost use Rattle.assembler.specs.Program as spec;
 ghost use Rattle.assembler.specs.Private.Steps.{after, said};
 
 use crate::error::{AsmError, AsmErrorKind};
+use byte_strings::parted;
 use statements::{Line, read_line};
 use std::alloc::Global;
 
@@ -35,7 +36,7 @@ pub(crate) fn read_program<'a>(alloc: Global, text: &'a [u8]) -> Result<Vec<Sour
         });
     }
     match str::from_utf8(text) {
-        Ok(text) => read_lines(alloc, text),
+        Ok(_) => read_lines(alloc, text),
         Err(error) => Err(AsmError {
             line: line_at(text, error.valid_up_to()),
             kind: AsmErrorKind::NotUtf8,
@@ -53,20 +54,45 @@ fn line_at(text: &[u8], index: usize) -> u32
     before.iter().filter(|b| **b == b'\n').count() as u32 + 1
 }
 
-fn read_lines<'a>(alloc: Global, text: &'a str) -> Result<Vec<Source<'a>>, AsmError>
+fn read_lines<'a>(alloc: Global, text: &'a [u8]) -> Result<Vec<Source<'a>>, AsmError>
     requires { length text.now ≤ 1048576 }
     ensures { MatchResult result (λ p. spec.read_lines 1 (lines text.now) ≡ Ok p.items)
         (λ e. Reports e (error_in (spec.read_lines 1 (lines text.now)))) }
 {
     let mut program = Vec::new(alloc);
     let mut number = 0;
-    for line in text.lines() {
+    let mut rest = text;
+    'lines: while !rest.is_empty() {
+        let (line, after) = first_line(rest);
         number += 1;
-        if let Err(error) = read_one(alloc, &mut program, number, line.as_bytes()) {
+        if let Err(error) = read_one(alloc, &mut program, number, line) {
             return Err(error);
         }
+        rest = after;
     }
     Ok(program)
+}
+
+// The first line of a text that is not empty, and what comes after it.
+fn first_line(text: &[u8]) -> (&[u8], &[u8])
+    requires { 0 < length text.now }
+    ensures lines { lines text.now ≡ result.0.now ∷ lines result.1.now }
+    ensures smaller { length result.1.now < length text.now }
+{
+    match parted(b'\n', text) {
+        Some((line, after)) => (without_carriage_return(line), after),
+        None => (text, b""),
+    }
+}
+
+fn without_carriage_return(line: &[u8]) -> &[u8]
+    ensures { result.now ≡ strip_carriage_return line.now }
+{
+    if !line.is_empty() && line[line.len() - 1] == b'\r' {
+        &line[..line.len() - 1]
+    } else {
+        line
+    }
 }
 
 // One line more.

@@ -1,3 +1,4 @@
 pub mod Conjunctions
 pub mod Trimming
 pub mod Below
+pub mod Divided

@@ -1,2 +1,3 @@
--- Blanks, and a text without those round it.
+-- Blanks, a text without those round it, and its fields.
 pub mod Blanks
+pub mod Fields

@@ -7,13 +7,13 @@ pub use Rattle.assembler.specs.Places.{defines_twice, end_of, end_of_line, error
 pub use Rattle.assembler.specs.Program.{kept, line_then, read_by, read_lines, says_nothing, text_limit, whole_error}
 pub use Rattle.assembler.specs.declared.error.AsmError.{AsmError}
 pub use Rattle.assembler.specs.declared.error.AsmErrorKind.{AsmErrorKind}
+pub use Rattle.byte_strings.proofs.Divided.{left}
 pub use Rattle.diagnostics.specs.Diagnoses.{diagnosis, HasColumn, told}
 pub use Rattle.diagnostics.specs.Errors.{content_errors, EachIsTold, error_if, errors_by, errors_in, errors_read, first_in, FirstIsReported, line_errors, line_in, lines_of, listed, located_among, memory_limit, misplaced_at, next_address, numbered, or_next, place_errors, program_errors, reading_errors, Source, stands, unread, value_in, with_label, with_labels}
 pub use Rattle.diagnostics.specs.Findings.{errors_found, finding_of, findings_of, HaveColumns, located_in, program_of, source_of}
 pub use Rattle.diagnostics.specs.Private.Steps.{all_read, content_steps, labels_after, LiesWithin, misplaced_so, said, said_lines, wrong_content, wrong_items, wrong_statement}
 pub use Rattle.image.specs.Lines.{Label, labels_of}
 pub use Rattle.image.specs.Memory.{first_address}
-pub use Rattle.statements.proofs.Fields.{fields_none, fields_some, left}
 pub use Rattle.statements.specs.Reading.{label_before, read}
 pub use Rattle.statements.specs.Spelling.{is_name, named}
 pub use Rattle.statements.specs.declared.error.LineError.{LineError}

@@ -3,7 +3,7 @@
 use Rattle.std.specs.Prelude.{◌≡◌, ℕ, ◌+◌, ◌-◌, ◌^◌, ◌<◌, ◌≤◌, min, List, [], length, take, drop, position, Option, Some, None, codes, refl}
 use Rattle.byte_strings.specs.Blanks.{is_blank, without_leading_blanks}
 use Rattle.statements.specs.Reading.{rest_of, without_comment}
-use Rattle.statements.specs.Spelling.{fields}
+use Rattle.byte_strings.specs.Fields.{fields}
 
 -- what comes after the labels of a text
 abbrev pub after_labels : List ℕ → List ℕ

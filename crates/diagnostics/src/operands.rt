@@ -2,8 +2,7 @@
 
 use crate::forms::Form;
 use crate::kinds::{Kind, refusal};
-use crate::parts::first_field;
-use byte_strings::{trimmed, without_leading_blanks};
+use byte_strings::{first_field, trimmed, without_leading_blanks};
 use statements::LineError;
 use std::alloc::{AllocError, Global};
 use std::str;
@@ -49,7 +48,7 @@ pub(crate) fn operand_at(operands: &[u8], index: usize) -> Option<&[u8]> {
         if passed == index {
             return Some(without_leading_blanks(fields));
         }
-        let (_, after) = first_field(fields);
+        let (_, after) = first_field(b',', fields);
         rest = after;
         passed = passed.saturating_add(1);
     }
@@ -60,7 +59,7 @@ pub(crate) fn operand_at(operands: &[u8], index: usize) -> Option<&[u8]> {
 pub(crate) fn operand_named<'a>(operands: &'a [u8], name: &str) -> &'a [u8] {
     let mut rest = Some(operands);
     'fields: while let Some(fields) = rest {
-        let (field, after) = first_field(fields);
+        let (field, after) = first_field(b',', fields);
         if trimmed(field) == name.as_bytes() {
             return without_leading_blanks(fields);
         }
@@ -71,7 +70,7 @@ pub(crate) fn operand_named<'a>(operands: &'a [u8], name: &str) -> &'a [u8] {
 
 /// The text of an operand, which begins a part of a line.
 pub(crate) fn operand_text(part: &[u8]) -> &str {
-    let (field, _) = first_field(part);
+    let (field, _) = first_field(b',', part);
     text_of(trimmed(field))
 }
 
@@ -80,7 +79,7 @@ pub(crate) fn blank_operand(operands: &[u8]) -> Option<(usize, &[u8])> {
     let mut rest = Some(operands);
     let mut index = 0;
     'fields: while let Some(fields) = rest {
-        let (field, after) = first_field(fields);
+        let (field, after) = first_field(b',', fields);
         if trimmed(field).is_empty() {
             return Some((index, without_leading_blanks(fields)));
         }
@@ -102,7 +101,7 @@ pub(crate) fn at_fault<'a>(
     let mut rest = Some(operands);
     let mut index = 0;
     'fields: while let Some(fields) = rest {
-        let (field, after) = first_field(fields);
+        let (field, after) = first_field(b',', fields);
         let text = text_of(trimmed(field));
         let Some(kind) = form.kind_at(count, index) else {
             return Ok(None);

@@ -7,9 +7,9 @@ ghost use Rattle.std.specs.Option.{option_copied, option_map};
 ghost use Rattle.byte_strings.specs.Blanks.{is_blank, without_leading_blanks};
 ghost use Rattle.diagnostics.specs.Parts as spec;
 ghost use Rattle.statements.specs.Reading.{without_comment};
-ghost use Rattle.statements.specs.Spelling.{begins_name, fields, fields_after, is_name, is_name_byte, parted};
+ghost use Rattle.statements.specs.Spelling.{begins_name, is_name, is_name_byte};
 
-use byte_strings::{is_blank, without_leading_blanks};
+use byte_strings::{is_blank, parted, without_leading_blanks};
 
 /// What stands before a comment.
 pub(crate) fn without_comment(line: &[u8]) -> &[u8]
@@ -19,22 +19,6 @@ pub(crate) fn without_comment(line: &[u8]) -> &[u8]
         Some((content, _)) => content,
         None => line,
     }
-}
-
-/// What comes before the first of a byte, and after it. `None`: there is none.
-pub(crate) fn parted(byte: u8, text: &[u8]) -> Option<(&[u8], &[u8])>
-    ensures parts { option_map (λ p. (p.0.now, p.1.now)) result ≡ parted byte text.now }
-    ensures smaller { IfSome result (λ p. length p.1.now < length text.now) }
-{
-    let i = index_of(byte, text)?;
-    Some((&text[..i], &text[i + 1..]))
-}
-
-// Where the first of a byte is.
-fn index_of(byte: u8, text: &[u8]) -> Option<usize>
-    ensures { result ≡ position (λ b. b == byte) text.now }
-{
-    text.iter().position(|b| *b == byte)
 }
 
 fn begins_name(byte: u8) -> bool
@@ -130,17 +114,6 @@ pub(crate) fn operands_of(statement: &[u8]) -> &[u8]
     match mnemonic_end(statement) {
         Some(end) => without_leading_blanks(&statement[end..]),
         None => b"",
-    }
-}
-
-/// The first field of a text that is divided at commas, and what comes after the comma, if there is one.
-pub(crate) fn first_field(text: &[u8]) -> (&[u8], Option<&[u8]>)
-    ensures fields { fields 44 text.now ≡ result.0.now ∷ fields_after 44 (option_copied result.1) }
-    ensures smaller { IfSome result.1 (λ after. length after.now < length text.now) }
-{
-    match parted(b',', text) {
-        Some((field, after)) => (field, Some(after)),
-        None => (text, None),
     }
 }
 

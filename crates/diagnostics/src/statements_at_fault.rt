@@ -6,9 +6,9 @@ use crate::foreign::foreign_words;
 use crate::forms::form_of;
 use crate::nearest::{in_small_letters, nearest_mnemonic};
 use crate::operands::{operand_text, text_of};
-use crate::parts::{mnemonic_of, operands_of, parted};
+use crate::parts::{mnemonic_of, operands_of};
 use assembler::AsmErrorKind;
-use byte_strings::trimmed;
+use byte_strings::{parted, trimmed};
 use std::alloc::{AllocError, Global};
 
 /// What is told of a statement whose first word is no name. `Err`: no memory was left.

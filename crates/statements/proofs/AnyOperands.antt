@@ -1,7 +1,7 @@
 -- Lines of a mnemonic and operands that are any bytes that an operand may have.
 use Rattle.statements.proofs.Common.{[], access_mnemonics, all_append, AllBlank, and_both, and_left, and_right, and_then, ap, append-nil, append_assoc, are_operands, AreOperands, arith, bare, begins_blank, between, Bool, branch_mnemonics, commas, cond-false, copy_mnemonics, counted, directives, divided, false, fields, immediate_mnemonics, is_blank, is_name, is_name_byte, is_operand, is_plain, is_quiet, IsLine, IsOperand, IsStatement, jump_mnemonics, length, line_of, line_with, LineError, List, list_all, map, meaning, Mnemonic, mnemonic_of, Names, NamesArePlain, nat_tests, not, Ok, One, operand_list, parted_at, plain_mnemonics, read, refl, register_mnemonics, Result, Said, said_by, Some, stating, subst, sym, Three, trimmed, trimmed_begins, true, Two, with_one, with_three, with_two, without_comment, zero_branch_mnemonics, ℕ, ◌&&◌, ◌++◌, ◌<◌, ◌==◌, ◌∙◌, ◌∷◌, ◌≡◌}
 use Rattle.statements.proofs.Dividing.{lines_read, name_long, unempty}
-use Rattle.statements.proofs.Fields.{fields_none, fields_some}
+use Rattle.byte_strings.proofs.Divided.{fields_none, fields_some}
 use Rattle.statements.proofs.Registers.{name_bytes, named_is_name, table_is}
 use Rattle.statements.proofs.Runs.{Ends, all_weaker, bare_ends, begins_append, ends_after, lacks, lacks_byte, no_position, parts_join, unblank_bare}
 

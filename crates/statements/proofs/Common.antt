@@ -2,7 +2,9 @@
 pub use Rattle.byte_strings.proofs.Below.{all_below_at}
 pub use Rattle.byte_strings.proofs.Conjunctions.{all_append, all_reverse, and_both, and_left, and_right}
 pub use Rattle.byte_strings.proofs.Trimming.{all_gone, bare, begins_blank, between, blanks_go, led, others_stay, round, trimmed_bare, trimmed_begins, trimmed_ends}
+pub use Rattle.byte_strings.proofs.Divided.{fields_none, fields_some, left, shape}
 pub use Rattle.byte_strings.specs.Blanks.{is_blank, trimmed, without_leading_blanks, without_trailing_blanks}
+pub use Rattle.byte_strings.specs.Fields.{fields, fields_after, parted, parted_at}
 pub use Rattle.numerals.specs.Numerals.{magnitude as numeral_of, magnitude_by as numeral_by, numeral, prefixed, within}
 pub use Rattle.rv32i.specs.Machine.{sum}
 pub use Rattle.rv32i.specs.Names.{name_of, names, Names, numbered_name_of, numbered_names}
@@ -13,10 +15,10 @@ pub use Rattle.statements.specs.Instructions.{and_then, branch, constant, fence_
 pub use Rattle.statements.specs.Mnemonics.{access_mnemonics, branch_mnemonics, copy_mnemonics, directives, first_named, immediate_mnemonics, jump_mnemonics, mnemonic_of, or_else, plain_mnemonics, register_mnemonics, zero_branch_mnemonics}
 pub use Rattle.statements.specs.Numbers.{bits_by, bits_in, magnitude_by, number_by, number_in, signed}
 pub use Rattle.statements.specs.OperandLaws.{AreOperands, begins_high, begins_low, bits, commas, DigitsWrite, divided, in_brackets, in_spaced_brackets, is_no_offset, is_offset, is_quiet, is_unclosed, IsInner, IsNumber, IsOperand, labelled, line_with, low_of, none, NoOffsetIsZero, NumbersHaveRanges, PartsOfAddresses, RegistersHaveNames, SameAddress, SameImmediate, takes_address, TakesNumbers, WritesMagnitude}
-pub use Rattle.statements.specs.Operands.{access_by, access_in, access_with, address_target, are_operands, base_by, bits_low, bracketed, bracketed_by, closed, closed_by, counted, immediate_in, index_of, is_operand, label_in, low_by, low_in, offset_in, operand_list, operands_in, or_bad, part_access, part_access_by, part_by, part_in, part_low, plain_access, register_in, register_of, set_in, sets, target_in}
+pub use Rattle.statements.specs.Operands.{access_by, access_in, access_with, address_target, are_operands, base_by, bits_low, bracketed, bracketed_by, closed, closed_by, counted, each_operand, immediate_in, index_of, is_operand, label_in, low_by, low_in, offset_in, operand_list, operands_in, or_bad, part_access, part_access_by, part_by, part_in, part_low, plain_access, register_in, register_of, set_in, sets, target_in}
 pub use Rattle.statements.specs.Pseudo.{at_register, is_plain, IsShort, NamesArePlain, OfBranches, OfConstants, OfJumps, OfOne, OfRegisters, OfThree, OfTwo, Puts, with_one}
 pub use Rattle.statements.specs.Reading.{content_by, label_before, labels_of, labels_with, line_of, meaning, read, rest_of, rest_with, said, said_at, said_by, statement_in, stating, without_comment}
-pub use Rattle.statements.specs.Spelling.{fields, fields_after, is_name, is_name_byte, named, parted, parted_at, stripped}
+pub use Rattle.statements.specs.Spelling.{is_name, is_name_byte, named, stripped}
 pub use Rattle.statements.specs.Texts.{stated_alone, statement_of}
 pub use Rattle.statements.specs.declared.error.LineError.{LineError}
 pub use Rattle.statements.specs.declared.error.LineError.TheVariants.{BadOperand, NoMemory, OutOfRange, Syntax, UnknownInstruction}

@@ -6,7 +6,7 @@ use Rattle.std.proofs.lemmas.List.{map-append}
 use mathlib.Core.List.{map-map}
 use Rattle.statements.proofs.Addresses.{label_is}
 use Rattle.statements.proofs.AnyOperands.{list_means, listed, name_operand, one_means, one_ok}
-use Rattle.statements.proofs.Fields.{shape}
+use Rattle.byte_strings.proofs.Divided.{shape}
 use Rattle.statements.proofs.Places.{takes, turned}
 use Rattle.statements.specs.declared.statement.Statement.TheVariants as say
 

@@ -1,6 +1,6 @@
 -- The labels that a text begins with.
 use Rattle.statements.proofs.Common.{[], ap, append_assoc, fields, join_with_byte, join_with_byte-slice_split, label_before, labels_of, List, None, parted, refl, rest_of, Some, sym, ℕ, ◌++◌, ◌∙◌, ◌∷◌, ◌≡◌}
-use Rattle.statements.proofs.Fields.{fields_none, fields_some, shape}
+use Rattle.byte_strings.proofs.Divided.{fields_none, fields_some, shape}
 
 -- without a colon there is no label
 pub no_colon : (text : List ℕ) → parted 58 text ≡ None → (labels_of (fields 58 text) ≡ []) × (rest_of (fields 58 text) ≡ text)

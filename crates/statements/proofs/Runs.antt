@@ -1,7 +1,7 @@
 -- Where a text is divided: at a colon, and at a blank.
 use Rattle.statements.proofs.Common.{[], all_reverse, and_both, and_left, and_right, ap, append-nil, arith, bare, begins_blank, Bool, drop-append-add, eq-eqb, false, is_blank, is_name, is_name_byte, join_with_byte, join_with_byte-slice_split, length, length-append, List, list_all, list_all-append, nat_tests, None, not, parted, parted_at, position, position_or_len, refl, reverse, Some, sym, take-append_seam, trimmed, trimmed_ends, true, ℕ, ◌++◌, ◌<◌, ◌==◌, ◌∙◌, ◌∷◌, ◌≡◌}
 use Rattle.std.proofs.lemmas.List.{length-reverse, reverse-append}
-use Rattle.statements.proofs.Fields.{fields_some, shape}
+use Rattle.byte_strings.proofs.Divided.{fields_some, shape}
 use Rattle.statements.proofs.Registers.{name_bytes}
 
 -- a byte that a text does not have

@@ -6,7 +6,8 @@
 use Rattle.std.specs.Prelude.{◌≡◌, ℕ, Bool, true, false, ◌==◌, if◌then◌else◌, ◌||◌, not, List, [], ◌∷◌, length, map}
 use Rattle.std.specs.Prelude.{Result, Ok, Err, ⊤}
 use Rattle.std.specs.List.{list_all}
-use Rattle.statements.specs.Spelling.{is_name, fields}
+use Rattle.statements.specs.Spelling.{is_name}
+use Rattle.byte_strings.specs.Fields.{fields}
 use Rattle.byte_strings.specs.Blanks.{trimmed}
 use Rattle.statements.specs.Numbers.{bits_in, constant_in}
 use Rattle.statements.specs.Operands.{label_in}

@@ -8,7 +8,8 @@ use Rattle.std.specs.Prelude.{position, Option, Some, None, Result, Ok, Err, cod
 use Rattle.std.specs.List.{list_all}
 use Rattle.std.specs.Str.{bytes_eq}
 use Rattle.rv32i.specs.Names.{names, numbered_names}
-use Rattle.statements.specs.Spelling.{is_name, named, parted, fields, stripped}
+use Rattle.statements.specs.Spelling.{is_name, named, stripped}
+use Rattle.byte_strings.specs.Fields.{fields, parted}
 use Rattle.byte_strings.specs.Blanks.{trimmed, without_leading_blanks}
 use Rattle.statements.specs.Numbers.{bits_in}
 use Rattle.statements.specs.declared.error.LineError.{LineError}
@@ -23,9 +24,13 @@ use Rattle.statements.specs.declared.statement.Target.TheVariants.{Label, Addres
 
 -- ---- how many there are
 
+-- what stands between commas
+abbrev pub each_operand : List ℕ → List (List ℕ)
+each_operand text = map trimmed (fields 44 text)
+
 -- the operands in what comes after a mnemonic
 abbrev pub operand_list : List ℕ → List (List ℕ)
-operand_list text = if length text == 0 then [] else map trimmed (fields 44 text)
+operand_list text = if length text == 0 then [] else each_operand text
 
 -- whether an operand is not blank
 abbrev pub is_operand : List ℕ → Bool

@@ -9,7 +9,8 @@
 use Rattle.std.specs.Prelude.{ℕ, ◌==◌, if◌then◌else◌, ◌&&◌, List, [], ◌∷◌, length, take, drop, position, Option, Some}
 use Rattle.std.specs.Prelude.{None, Result, Ok, Err}
 use Rattle.std.specs.List.{join_with_byte}
-use Rattle.statements.specs.Spelling.{is_name, parted, fields}
+use Rattle.statements.specs.Spelling.{is_name}
+use Rattle.byte_strings.specs.Fields.{fields, parted}
 use Rattle.byte_strings.specs.Blanks.{is_blank, trimmed, without_leading_blanks}
 use Rattle.statements.specs.Operands.{are_operands, operands_in}
 use Rattle.statements.specs.Mnemonics.{mnemonic_of}

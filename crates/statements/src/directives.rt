@@ -11,9 +11,9 @@ use crate::forms::label_in;
 use crate::items::{Item, Items, Width};
 use crate::name::name_in;
 use crate::number::{bits_in, constant_in};
-use crate::operands::{Operands, first_field};
+use crate::operands::Operands;
 use crate::statement::Statement;
-use byte_strings::trimmed;
+use byte_strings::{first_field, trimmed};
 use std::alloc::Global;
 
 /// `.space number`.
@@ -87,7 +87,7 @@ fn are_formed(width: Width, text: &[u8]) -> bool
 {
     let mut rest = Some(text);
     'fields: while let Some(fields) = rest {
-        let (field, after) = first_field(fields);
+        let (field, after) = first_field(b',', fields);
         if !is_formed(width, trimmed(field)) {
             return false;
         }
@@ -124,7 +124,7 @@ fn items_in<'a>(alloc: Global, width: Width, text: &'a [u8]) -> Result<Items<'a>
     let mut list = Vec::new(alloc);
     let mut rest = Some(text);
     'fields: while let Some(fields) = rest {
-        let (field, after) = first_field(fields);
+        let (field, after) = first_field(b',', fields);
         let item = match item_in(width, trimmed(field)) {
             Ok(item) => item,
             Err(error) => return Err(error),

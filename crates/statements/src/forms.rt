@@ -7,9 +7,9 @@ ghost use Rattle.statements.specs.Operands as spec;
 use crate::error::LineError;
 use crate::name::{Name, name_in};
 use crate::number::bits_in;
-use crate::spelling::{parted, stripped};
+use crate::spelling::stripped;
 use crate::statement::Target;
-use byte_strings::{trimmed, without_leading_blanks};
+use byte_strings::{parted, trimmed, without_leading_blanks};
 use rv32i::{FenceSet, Imm, Reg, reg_of};
 
 /// The lower 12 bits of something.

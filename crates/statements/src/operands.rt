@@ -1,18 +1,19 @@
 //! Operands.
-ghost use Rattle.std.specs.Prelude.{◌≡◌, ◌≤◌, ◌<◌, ◌+◌, ◌%◌, ◌^◌, ◌∷◌, ◌↔◌, [], true, IsSome, List, ℕ, length, Option, Some, None, Ok, IfOk, IfSome, if◌then◌else◌};
+ghost use Rattle.std.specs.Prelude.{map, false, ◌≡◌, ◌≤◌, ◌<◌, ◌+◌, ◌%◌, ◌^◌, ◌∷◌, ◌↔◌, [], true, IsSome, List, ℕ, length, Option, Some, None, Ok, IfOk, IfSome, if◌then◌else◌};
 ghost use Rattle.std.specs.List.{list_all};
 ghost use Rattle.std.specs.Option.{option_copied};
-ghost use Rattle.statements.specs.Spelling.{is_name, fields, fields_after};
+ghost use Rattle.statements.specs.Spelling.{is_name};
 ghost use Rattle.byte_strings.specs.Blanks.{trimmed};
+ghost use Rattle.byte_strings.specs.Fields.{fields_after};
 ghost use Rattle.statements.specs.Numbers.{bits_in};
 ghost use Rattle.statements.specs.Operands as spec;
 
 use crate::error::LineError;
 use crate::name::Name;
 use crate::number::bits_in;
-use crate::spelling::{is_name, parted, stripped};
+use crate::spelling::{is_name, stripped};
 use crate::statement::Target;
-use byte_strings::trimmed;
+use byte_strings::{first_field, trimmed};
 use rv32i::{FenceSet, Imm, Reg, reg_of};
 use std::marker::Model;
 
@@ -54,60 +55,52 @@ pub(crate) fn operands_in(text: &[u8]) -> Option<Operands<'_>>
     if text.is_empty() {
         return Some(Operands::Zero);
     }
-    if !are_operands(text) {
+    let (first, after) = first_operand(text)?;
+    let Some(text) = after else {
+        return Some(Operands::One(first));
+    };
+    let (second, after) = first_operand(text)?;
+    let Some(text) = after else {
+        return Some(Operands::Two(first, second));
+    };
+    let (third, after) = first_operand(text)?;
+    let Some(text) = after else {
+        return Some(Operands::Three(first, second, third));
+    };
+    if are_operands(text) {
+        Some(Operands::More)
+    } else {
+        None
+    }
+}
+
+// The first operand, and what comes after its comma. `None`: it is blank.
+fn first_operand(text: &[u8]) -> Option<(Operand<'_>, Option<&[u8]>)>
+    ensures some { IfSome result (λ p. spec.each_operand text.now ≡ p.0 ∷ map trimmed (fields_after 44 (option_copied p.1))) }
+    ensures is { IfSome result (λ p. spec.is_operand p.0 ≡ true) }
+    ensures smaller { IfSome result (λ p. IfSome p.1 (λ after. length after.now < length text.now)) }
+    ensures blank { result ≡ None → list_all spec.is_operand (spec.each_operand text.now) ≡ false }
+{
+    let (field, after) = first_field(b',', text);
+    let operand = Operand::new(field);
+    if operand.text.is_empty() {
         return None;
     }
-    Some(counted(text))
+    Some((operand, after))
 }
 
 // Whether none of them is blank.
 fn are_operands(text: &[u8]) -> bool
-    requires { 0 < length text.now }
-    ensures { result ≡ spec.are_operands text.now }
+    ensures { result ≡ list_all spec.is_operand (spec.each_operand text.now) }
 {
     let mut rest = Some(text);
     'fields: while let Some(fields) = rest {
-        let (field, after) = first_field(fields);
-        if trimmed(field).is_empty() {
+        let Some((_, after)) = first_operand(fields) else {
             return false;
-        }
+        };
         rest = after;
     }
     true
-}
-
-fn counted(text: &[u8]) -> Operands<'_>
-    requires { 0 < length text.now }
-    ensures { result ≡ spec.operands_in text.now }
-{
-    let (first, after) = first_field(text);
-    let first = Operand::new(first);
-    let Some(text) = after else {
-        return Operands::One(first);
-    };
-    let (second, after) = first_field(text);
-    let second = Operand::new(second);
-    let Some(text) = after else {
-        return Operands::Two(first, second);
-    };
-    let (third, after) = first_field(text);
-    let third = Operand::new(third);
-    if after.is_some() {
-        return Operands::More;
-    }
-    Operands::Three(first, second, third)
-}
-
-/// The first field of a text that is divided at commas, and what comes after the comma, if there is
-/// one.
-pub(crate) fn first_field(text: &[u8]) -> (&[u8], Option<&[u8]>)
-    ensures fields { fields 44 text.now ≡ result.0.now ∷ fields_after 44 (option_copied result.1) }
-    ensures smaller { IfSome result.1 (λ after. length after.now < length text.now) }
-{
-    match parted(b',', text) {
-        Some((field, after)) => (field, Some(after)),
-        None => (text, None),
-    }
 }
 
 impl<'a> Operand<'a> {

@@ -3,8 +3,9 @@ ghost use Rattle.std.specs.Prelude.{◌≡◌, ◌<◌, length, position, Option
 ghost use Rattle.std.specs.Option.{option_copied};
 ghost use Rattle.statements.specs.Directives.{OrNoMemory};
 ghost use Rattle.statements.specs.Reading as spec;
-ghost use Rattle.statements.specs.Spelling.{named, fields};
+ghost use Rattle.statements.specs.Spelling.{named};
 ghost use Rattle.byte_strings.specs.Blanks.{is_blank};
+ghost use Rattle.byte_strings.specs.Fields.{fields};
 
 use crate::directives::{align, data, global, section, space};
 use crate::error::LineError;
@@ -17,9 +18,8 @@ use crate::line::{Labels, Line};
 use crate::mnemonics::{Mnemonic, mnemonic_of};
 use crate::name::{Name, name_in};
 use crate::operands::{Operands, operands_in};
-use crate::spelling::parted;
 use crate::statement::Statement;
-use byte_strings::{is_blank, trimmed, without_leading_blanks};
+use byte_strings::{is_blank, parted, trimmed, without_leading_blanks};
 use std::alloc::Global;
 
 /// What a line says, or the first thing that is wrong with it. The line has no line feed.

@@ -1,8 +1,8 @@
-//! How a line is spelled: names, and a text divided at a byte.
+//! How a line is spelled: names, and prefixes.
 ghost use Rattle.std.specs.Prelude.{◌≡◌, ◌<◌, ◌==◌, ◌∷◌, List, ℕ, length, IsTrue, IfSome, Option, position};
 ghost use Rattle.std.specs.List.{list_all};
 ghost use Rattle.std.specs.Option.{option_copied, option_map};
-ghost use Rattle.statements.specs.Spelling.{begins_name, stripped, is_name, is_name_byte, parted};
+ghost use Rattle.statements.specs.Spelling.{begins_name, stripped, is_name, is_name_byte};
 
 fn begins_name(byte: u8) -> bool
     ensures { result ≡ begins_name byte }
@@ -30,22 +30,6 @@ fn are_name_bytes(text: &[u8]) -> bool
     ensures { result ≡ list_all is_name_byte text.now }
 {
     text.iter().all(|b| is_name_byte(*b))
-}
-
-/// What comes before the first of a byte, and after it. `None`: there is none.
-pub(crate) fn parted(byte: u8, text: &[u8]) -> Option<(&[u8], &[u8])>
-    ensures parts { option_map (λ p. (p.0.now, p.1.now)) result ≡ parted byte text.now }
-    ensures smaller { IfSome result (λ p. length p.1.now < length text.now) }
-{
-    let i = index_of(byte, text)?;
-    Some((&text[..i], &text[i + 1..]))
-}
-
-// Where the first of a byte is.
-fn index_of(byte: u8, text: &[u8]) -> Option<usize>
-    ensures { result ≡ position (λ b. b == byte) text.now }
-{
-    text.iter().position(|b| *b == byte)
 }
 
 /// The text without this prefix. `None`: it has another.

@@ -8,7 +8,8 @@ use Rattle.byte_strings.specs.Blanks.{is_blank, trimmed, without_leading_blanks}
 use Rattle.image.specs.Lines.{Label}
 use Rattle.image.specs.Memory.{first_address}
 use Rattle.statements.specs.Reading.{content_by, label_before, labels_of, labels_with, line_of, read, rest_of, statement_in, without_comment}
-use Rattle.statements.specs.Spelling.{begins_name, fields, is_name, is_name_byte, parted_at}
+use Rattle.byte_strings.specs.Fields.{fields, parted_at}
+use Rattle.statements.specs.Spelling.{begins_name, is_name, is_name_byte}
 use Rattle.statements.specs.declared.error.LineError.{LineError}
 use Rattle.statements.specs.declared.line.Line.{Line}
 use Rattle.statements.specs.declared.statement.Statement.{Statement}

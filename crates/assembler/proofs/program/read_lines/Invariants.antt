@@ -1,7 +1,10 @@
-use Rattle.assembler.proofs.Common.{after, drop, length, lines, read_lines, ◌+◌, ◌≡◌}
+use Rattle.assembler.proofs.Common.{after, length, lines, read_lines, ◌+◌, ◌≡◌, ◌≤◌}
 
-abbrev pub invariant-loop-line : Rattle.assembler.proofs.program.read_lines.Given.invariant-loop-line
-invariant-loop-line l = record {
-  count : l.number ≡ length l.yielded;
-  left : read_lines 1 (lines l.text) ≡ after l.program.items (read_lines (l.number + 1) (drop l.number (lines l.text)));
+abbrev pub invariant-lines : Rattle.assembler.proofs.program.read_lines.Given.invariant-lines
+invariant-lines l = record {
+  count : l.number + length l.rest ≤ length l.text;
+  left : read_lines 1 (lines l.text) ≡ after l.program.items (read_lines (l.number + 1) (lines l.rest));
 }
+
+abbrev pub decreases-lines : Rattle.assembler.proofs.program.read_lines.Given.decreases-lines
+decreases-lines l = length l.rest

@@ -13,9 +13,8 @@ returns-then-text-gt-TEXT_LIMIT-clause-whole c =
 pub returns-in-Ok-clause-answers : goal.returns-in-Ok-clause-answers
 returns-in-Ok-clause-answers c =
     let few : length c.args.text.now ≤ 1048576 = omega arith in
-    let same = c.in-Ok.ensures.cases.0 in
     let all : read_text c.args.text.now ≡ read_lines 1 (lines c.args.text.now) = a_text c.args.text.now few c.in-Ok.ensures.cases.1 in
-    rw (all, ← same) c.read_lines.ensures
+    rw all c.read_lines.ensures
 
 pub returns-in-Ok-clause-whole : goal.returns-in-Ok-clause-whole
 returns-in-Ok-clause-whole c =

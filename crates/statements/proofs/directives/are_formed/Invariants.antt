@@ -1,5 +1,5 @@
 use Rattle.statements.proofs.Common.{are_formed, fields_after, is_formed, list_all, map, option_copied, trimmed, ◌≡◌}
-use Rattle.statements.proofs.Fields.{left}
+use Rattle.byte_strings.proofs.Divided.{left}
 use Rattle.statements.proofs.directives.are_formed.Given as goal
 
 abbrev pub invariant-fields : goal.invariant-fields

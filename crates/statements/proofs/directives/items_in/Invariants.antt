@@ -1,5 +1,6 @@
 use Rattle.statements.proofs.Common.{fields_after, items_in, items_of, option_copied, ◌≡◌}
-use Rattle.statements.proofs.Fields.{followed_by, left}
+use Rattle.statements.proofs.Fields.{followed_by}
+use Rattle.byte_strings.proofs.Divided.{left}
 use Rattle.statements.proofs.directives.items_in.Given as goal
 
 abbrev pub invariant-fields : goal.invariant-fields

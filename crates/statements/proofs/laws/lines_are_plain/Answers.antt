@@ -4,7 +4,8 @@ use Rattle.std.proofs.lemmas.List.Sums.{list_all-from_AllPass}
 use Rattle.statements.proofs.AnyOperands.{is_quiet_byte, listed, plain_means}
 use Rattle.statements.proofs.DataLines.{outcome, stated_so}
 use Rattle.statements.proofs.Dividing.{lines_read}
-use Rattle.statements.proofs.Fields.{cases_found, fields_none, fields_some}
+use Rattle.statements.proofs.Fields.{cases_found}
+use Rattle.byte_strings.proofs.Divided.{fields_none, fields_some}
 use Rattle.statements.proofs.Runs.{all_left, all_right, lacks}
 
 -- ---- what is said by the operands alone
