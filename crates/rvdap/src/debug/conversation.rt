@@ -136,14 +136,13 @@ impl<'a> Conversation<'a> {
         Ok(Next::End)
     }
 
-    // Gives the program time; a line that is typed meanwhile pauses it, whatever it says.
+    // Gives the program time; a line that is typed meanwhile pauses it, whatever it says, and then it has the time to stop.
     fn give_time(&mut self, console: &mut Console) -> Result<Next, ExitReason> {
         if self.input.origin() == Origin::Typed && self.input.is_ready()? {
             self.input.take()?;
             self.output.show(console.pause())?;
-        } else {
-            self.output.show(console.run(MOVES))?;
         }
+        self.output.show(console.run(MOVES))?;
         Ok(Next::More)
     }
 
