@@ -12,6 +12,10 @@ STORE = (b"_start: li a0, 7\ncall put\nli a7, 1\necall\nli a0, 1\ncall put\nli a
          b"put: la t0, table\nsw a0, 4(t0)\nret\ntable: .word 65, 0xfffffffe\n")
 STORE_BEGINS = "0x00010000 _start\n>    1  _start: li a0, 7\n     2  call put\n"
 
+# Stores a word, and sets ra and a7, once each, in a program with more instructions than one request can watch.
+LONG = (b"_start: la t0, word\nli a0, 5\nsw a0, 0(t0)\njal ra, end\nnop\nend: li a7, 93\necall\nword: .word 7\n" + b"nop\n" * 1024)
+LONG_BEGINS = "0x00010000 _start\n>    1  _start: la t0, word\n     2  li a0, 5\n"
+
 # Runs for ever.
 ENDLESS = b"here: j here\n"
 
@@ -65,6 +69,18 @@ TRANSCRIPTS = (
         ("delete 1", ""),
         ("continue", "the program ended with exit code 0\n"),
     ), False),
+    ("all are deleted, at lines, labels and addresses", COUNT, COUNT_BEGINS, (
+        ("break 2", "breakpoint 1 at 0x00010004\n"),
+        ("break loop", "breakpoint 2 at 0x00010004\n"),
+        ("break *loop + 8", "breakpoint 3 at 0x0001000c\n"),
+        ("delete", ""),
+        ("continue", "the program ended with exit code 0\n"),
+    ), False),
+    ("a temporary breakpoint is met once", COUNT, COUNT_BEGINS, (
+        ("tbreak loop", "breakpoint 1 at 0x00010004\n"),
+        ("c", "breakpoint 1\n0x00010004 loop\n    a0 = 0x00000003  3\n     1  _start: li a0, 3\n>    2  loop: addi a0, a0, -1\n     3  bnez a0, loop\n"),
+        ("c", "the program ended with exit code 0\n"),
+    ), False),
     ("calls are shown, 20 at most", DEEP, DEEP_BEGINS, (
         ("break bottom", "breakpoint 1 at 0x00010028\n"),
         ("c", "breakpoint 1\n0x00010028 bottom\n    ra = 0x00010024  65572  down+16\n     8  ret\n>*   9  bottom: nop\n    10  ret\n"),
@@ -99,6 +115,24 @@ TRANSCRIPTS = (
          "0x00010030 put+8\n    ra = 0x0001000c  65548  _start+12\n    a0 = 0x00000007  7\n    a7 = 0x00000000  0\n"
          " *   9  put: la t0, table\n>   10  sw a0, 4(t0)\n    11  ret\n"),
     ), False),
+    ("of a long program the instructions are watched that can change what is read", LONG, LONG_BEGINS, (
+        ("change [word]", "[word] was 0x00000007  7\n[word] is  0x00000005  5\nchanged by\n"
+         "> 0x0001000c  00a2a023  sw a0, 0(t0)              _start+12\n"
+         "0x00010010 _start+16\n    t0 = 0x00010020  65568  word\n    a0 = 0x00000005  5\n"
+         "     3  sw a0, 0(t0)\n>    4  jal ra, end\n     5  nop\n"),
+        ("back-to-change a0", "a0 was 0x00000000  0\na0 is  0x00000005  5\nchanged by\n"
+         "> 0x00010008  00500513  addi a0, zero, 5          _start+8\n"
+         "0x00010008 _start+8\n    a0 = 0x00000000  0\n     1  _start: la t0, word\n>    2  li a0, 5\n     3  sw a0, 0(t0)\n"),
+        ("change x1", "x1 was 0x00000000  0\nx1 is  0x00010014  65556\nchanged by\n"
+         "> 0x00010010  008000ef  jal ra, 0x00010018        _start+16\n"
+         "0x00010018 end\n    ra = 0x00010014  65556  _start+20\n    a0 = 0x00000005  5\n     5  nop\n>    6  end: li a7, 93\n     7  ecall\n"),
+        ("change a7", "a7 was 0x00000000  0\na7 is  0x0000005d  93  ']'\nchanged by\n"
+         "> 0x00010018  05d00893  addi a7, zero, 93         end\n"
+         "0x0001001c end+4\n    a7 = 0x0000005d  93  ']'\n     6  end: li a7, 93\n>    7  ecall\n     8  word: .word 7\n"),
+        ("back-to-change pc", "pc was 0x00010018  65560\npc is  0x0001001c  65564\nchanged by\n"
+         "> 0x00010018  05d00893  addi a7, zero, 93         end\n"
+         "0x00010018 end\n    a7 = 0x00000000  0\n     5  nop\n>    6  end: li a7, 93\n     7  ecall\n"),
+    ), False),
     ("what is displayed is shown at each stop", COUNT, COUNT_BEGINS, (
         ("display a0 * 2", "1: a0 * 2 = 0x00000000  0\n"),
         ("display [sp - 4]", "2: [sp - 4] = 0x00000000  0\n"),
@@ -107,6 +141,17 @@ TRANSCRIPTS = (
          "1: a0 * 2 = 0x00000006  6\n"),
         ("undisplay", ""),
         ("where", "0x00010004 loop\n     1  _start: li a0, 3\n>    2  loop: addi a0, a0, -1\n     3  bnez a0, loop\n"),
+    ), False),
+    ("what is displayed may lose its value", COUNT, COUNT_BEGINS, (
+        ("set a0 = 65536", "    a0 = 0x00010000  65536  _start\n"),
+        ("display [a0 + 4096]", "1: [a0 + 4096] = 0x00000000  0\n"),
+        ("s", "0x00010004 loop\n    a0 = 0x00000003  3\n     1  _start: li a0, 3\n>    2  loop: addi a0, a0, -1\n     3  bnez a0, loop\n"
+         "1: [a0 + 4096] = no value here\n"),
+    ), False),
+    ("fp is s0", COUNT, COUNT_BEGINS, (
+        ("set fp = 3", "    s0 = 0x00000003  3\n"),
+        ("print fp + s0", "0x00000006  6\n"),
+        ("registers fp", "    s0 = 0x00000003  3\n"),
     ), False),
     ("what a logpoint says comes before the stop after it", COUNT, COUNT_BEGINS, (
         ("log loop once more", "breakpoint 1 at 0x00010004\n"),
@@ -129,6 +174,13 @@ TRANSCRIPTS = (
         ("c", "breakpoint 1\n0x00010008 loop+4\n    a0 = 0x00000002  2\n     2  loop: addi a0, a0, -1\n>*   3  bnez a0, loop\n     4  li a7, 93\n"),
         ("run", COUNT_BEGINS),
         ("c", "breakpoint 1\n0x00010008 loop+4\n    a0 = 0x00000002  2\n     2  loop: addi a0, a0, -1\n>*   3  bnez a0, loop\n     4  li a7, 93\n"),
+    ), False),
+    ("breakpoints at labels and addresses are kept where it begins anew", COUNT, COUNT_BEGINS, (
+        ("break loop if a0 == 1", "breakpoint 1 at 0x00010004\n"),
+        ("break *loop + 8", "breakpoint 2 at 0x0001000c\n"),
+        ("run", "0x00010000 _start\n>    1  _start: li a0, 3\n *   2  loop: addi a0, a0, -1\n"),
+        ("c", "breakpoint 1\n0x00010004 loop\n    a0 = 0x00000001  1\n     1  _start: li a0, 3\n>*   2  loop: addi a0, a0, -1\n     3  bnez a0, loop\n"),
+        ("c", "breakpoint 2\n0x0001000c loop+8\n    a0 = 0x00000000  0\n     3  bnez a0, loop\n>*   4  li a7, 93\n     5  ecall\n"),
     ), False),
     ("so much and no more is shown or moved at once", UP, UP_BEGINS, (
         ("x _start 16384", WORDS + ZEROS),

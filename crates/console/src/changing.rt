@@ -1,20 +1,13 @@
 //! Who changed a value: the program moves until an expression has another one.
 //!
-//! Every instruction of the program gets a breakpoint with the condition that the value is another one, and the program runs. Where it has too
-//! many for one request, it moves by single instructions.
+//! It runs where breakpoints see another value (`watching.rt`); where these can't be set, it moves by single instructions.
 
-use crate::asking::Answer;
 use crate::console::{Console, Waits};
 use crate::errand::{Change, Errand, MOST_MOVES};
-use crate::piece::{Listed, address_text, value_text};
-use image::FIRST_ADDRESS;
+use crate::piece::{Listed, value_text};
 use prompt::{Direction, Motion};
-use protocol::{Command, Entries, InstructionBreakpoint, SetInstructionBreakpointsArguments, Text};
 use replies::{Reason, Stopped};
 use std::alloc::AllocError;
-
-/// The most instructions that can have a breakpoint.
-const MOST_WATCHED: usize = 1_024;
 
 /// After how many single moves the instruction that changed a value is looked for no more.
 const MOST_SINGLE: u32 = 65_536;
@@ -25,80 +18,63 @@ impl Console {
         let Some(value) = self.value_of(text)? else {
             return Ok(());
         };
-        let expression = self.with_addresses(text)?;
-        let is_watched = self.watch(expression.as_str(), value)?;
-        let change = Change {
-            direction,
-            text: String::from_str(self.alloc, text)?,
-            expression,
-            value,
-            is_watched,
-            left: MOST_MOVES,
-        };
-        self.move_on(change)
+        let change = self.change_of(direction, text, value)?;
+        self.begin_to_look(change)
     }
 
-    // Sets a breakpoint at each instruction, where the value is another one. Whether that could be done is told.
-    fn watch(&mut self, expression: &str, value: u32) -> Result<bool, AllocError> {
-        let Some(breakpoints) = self.watched(expression, value)? else {
-            return Ok(false);
-        };
-        let asked = Command::SetInstructionBreakpoints(SetInstructionBreakpointsArguments {
-            breakpoints: Entries::from_vec(breakpoints),
-        });
-        match self.ask(asked)? {
-            Answer::Done(_) => Ok(true),
-            _ => Ok(false),
-        }
-    }
-
-    fn watched(
+    fn change_of(
         &self,
-        expression: &str,
+        direction: Direction,
+        text: &str,
         value: u32,
-    ) -> Result<Option<Vec<InstructionBreakpoint>>, AllocError> {
-        let alloc = self.alloc;
-        let mut breakpoints = Vec::new(alloc);
-        for index in 0..self.words() {
-            let address = FIRST_ADDRESS.saturating_add(index.saturating_mul(4));
-            if self.is_code(address) {
-                if breakpoints.len() == MOST_WATCHED {
-                    return Ok(None);
-                }
-                let condition = format!(in alloc; "({expression}) != {value}")?;
-                breakpoints.push(InstructionBreakpoint {
-                    instruction_reference: Text::from_string(address_text(alloc, address)?),
-                    offset: 0,
-                    condition: Some(Text::from_string(condition)),
-                    hit_condition: None,
-                })?;
+    ) -> Result<Change, AllocError> {
+        let expression = self.with_addresses(text)?;
+        match String::from_str(self.alloc, text) {
+            Ok(text) => Ok(Change {
+                direction,
+                text,
+                expression,
+                value,
+                is_watched: false,
+                left: MOST_MOVES,
+            }),
+            Err(error) => {
+                drop(expression);
+                Err(error)
             }
         }
-        Ok(Some(breakpoints))
     }
 
-    // How many words the image has, at most as many as are looked at.
-    fn words(&self) -> u32 {
-        match &self.image {
-            Some(image) => u32::try_from(image.bytes.as_slice().len().div_ceil(4)).unwrap_or(0),
-            None => 0,
-        }
-    }
-
-    fn is_code(&self, address: u32) -> bool {
-        match self.lines() {
-            Some(lines) => lines.line_of(address).is_some(),
-            None => false,
+    fn begin_to_look(&mut self, mut change: Change) -> Result<(), AllocError> {
+        match self.watch(change.direction, change.expression.as_str(), change.value) {
+            Ok(is_watched) => {
+                change.is_watched = is_watched;
+                self.move_on(change)
+            }
+            Err(error) => {
+                drop(change);
+                Err(error)
+            }
         }
     }
 
     // On, or back.
     fn move_on(&mut self, change: Change) -> Result<(), AllocError> {
-        if self.set_out(motion_of(&change))? {
-            self.errand = Errand::Change(change);
-            return Ok(());
+        match self.set_out(motion_of(&change)) {
+            Ok(true) => {
+                self.errand = Errand::Change(change);
+                Ok(())
+            }
+            Ok(false) => {
+                let undone = self.unwatch(&change);
+                drop(change);
+                undone
+            }
+            Err(error) => {
+                drop(change);
+                Err(error)
+            }
         }
-        self.unwatch(&change)
     }
 
     // The breakpoints are again those that were asked for.
@@ -110,22 +86,40 @@ impl Console {
     }
 
     /// The program stopped: is the value another one?
-    pub(crate) fn compare(&mut self, change: Change, stop: Stopped) -> Result<(), AllocError> {
-        self.unwatch(&change)?;
-        match self.evaluated(change.expression.as_str())? {
-            Some(value) if value != change.value => self.found(&change, value),
-            Some(_) if is_single(&change, &stop) => self.go_further(change, stop),
-            Some(_) => self.not_found(&change, &stop),
-            None => self.lost(&change),
+    pub(crate) fn compare(&mut self, change: Change, stop: &Stopped) -> Result<(), AllocError> {
+        match self.is_as_before(&change, stop) {
+            Ok(true) => self.go_further(change, stop),
+            Ok(false) => {
+                drop(change);
+                Ok(())
+            }
+            Err(error) => {
+                drop(change);
+                Err(error)
+            }
         }
     }
 
-    fn go_further(&mut self, mut change: Change, stop: Stopped) -> Result<(), AllocError> {
+    // Whether it is the old one after a single move. Else what was found is said, and the program stays where it is.
+    fn is_as_before(&mut self, change: &Change, stop: &Stopped) -> Result<bool, AllocError> {
+        self.unwatch(change)?;
+        match self.evaluated(change.expression.as_str())? {
+            Some(value) if value != change.value => self.found(change, value)?,
+            Some(_) if is_single(change, stop) => return Ok(true),
+            Some(_) => self.not_found(change, stop)?,
+            None => self.lost(change)?,
+        }
+        Ok(false)
+    }
+
+    fn go_further(&mut self, mut change: Change, stop: &Stopped) -> Result<(), AllocError> {
         change.left = change.left.saturating_sub(1);
         if change.left > 0 {
             return self.move_on(change);
         }
-        self.not_found(&change, &stop)
+        let said = self.not_found(&change, stop);
+        drop(change);
+        said
     }
 
     // Something else stopped the program, or it made as many moves as it may.

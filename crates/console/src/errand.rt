@@ -24,7 +24,7 @@ pub(crate) struct Change {
     pub(crate) expression: String,
     /// The value that it had.
     pub(crate) value: u32,
-    /// Whether each instruction has a breakpoint where it is another one.
+    /// Whether breakpoints look for another one.
     pub(crate) is_watched: bool,
     /// How many moves it may still take.
     pub(crate) left: u32,

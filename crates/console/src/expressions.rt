@@ -13,7 +13,7 @@ use std::str;
 
 /// A part of an expression.
 #[derive(Drop)]
-enum Token<'a> {
+pub(crate) enum Token<'a> {
     /// A name: a register's, or a label's.
     Name(&'a [u8]),
     /// A character between quotes.
@@ -203,8 +203,8 @@ fn is_name_byte(byte: u8) -> bool {
     byte.is_ascii_alphanumeric() || byte == b'_' || byte == b'.' || byte == b'$'
 }
 
-// The first part of an expression, and what follows it.
-fn token_in(text: &[u8]) -> (Token<'_>, &[u8]) {
+/// The first part of an expression, and what follows it.
+pub(crate) fn token_in(text: &[u8]) -> (Token<'_>, &[u8]) {
     match text {
         [b'\'', byte, b'\'', rest @ ..] => (Token::Character(*byte), rest),
         [first, ..] if first.is_ascii_digit() => {

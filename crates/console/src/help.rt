@@ -100,7 +100,8 @@ instruction that is recorded.
         text: "\
 change EXPR, back-to-change EXPR: goes on, or back, one instruction after the
 other until the value of EXPR is another one, and shows the instruction that
-changed it. It gives up after 1,000,000 instructions.
+changed it. It gives up after 1,000,000 instructions. Of a program with more
+than 1,024 it looks at those of its text alone, not at any that it wrote itself.
     back-to-change ra
     change [table + 4]
 ",

@@ -4,6 +4,7 @@
 
 mod asking;
 mod beginning;
+mod changers;
 mod changing;
 mod console;
 mod errand;
@@ -21,6 +22,7 @@ mod stop_lists;
 mod stops;
 mod values;
 mod views;
+mod watching;
 
 pub use console::{Console, Waits};
 pub use page::Screen;

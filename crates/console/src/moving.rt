@@ -61,32 +61,34 @@ impl Console {
         if self.has_ended {
             return self.end();
         }
-        match self.stop.take() {
-            Some(stop) => self.settle_at(stop),
-            None => Ok(()),
-        }
+        let Some(stop) = self.stop.take() else {
+            return Ok(());
+        };
+        let settled = self.settle_at(&stop);
+        drop(stop);
+        settled
     }
 
     // The program stopped: it goes on, if that is what it was sent for.
-    fn settle_at(&mut self, stop: Stopped) -> Result<(), AllocError> {
+    fn settle_at(&mut self, stop: &Stopped) -> Result<(), AllocError> {
         match mem::replace(&mut self.errand, Errand::Nothing) {
-            Errand::Motion(motion, left) if left > 0 && is_met(motion, &stop) => {
+            Errand::Motion(motion, left) if left > 0 && is_met(motion, stop) => {
                 self.again(motion, left - 1, stop)
             }
             Errand::Change(change) => self.compare(change, stop),
             other => {
                 drop(other);
-                self.arrive(&stop)
+                self.arrive(stop)
             }
         }
     }
 
-    fn again(&mut self, motion: Motion, left: u32, stop: Stopped) -> Result<(), AllocError> {
+    fn again(&mut self, motion: Motion, left: u32, stop: &Stopped) -> Result<(), AllocError> {
         if self.set_out(motion)? {
             self.errand = Errand::Motion(motion, left);
             return Ok(());
         }
-        self.arrive(&stop)
+        self.arrive(stop)
     }
 
     // The program has ended.

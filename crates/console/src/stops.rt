@@ -202,7 +202,7 @@ impl Console {
         }
     }
 
-    /// Sets all breakpoints once more, in a program that was launched.
+    /// Sets all breakpoints once more, in a program that was launched: its session has none yet.
     pub(crate) fn set_again(&mut self) -> Result<(), AllocError> {
         self.set_list_again(Listed::Source)?;
         self.set_list_again(Listed::Functions)?;
@@ -210,22 +210,39 @@ impl Console {
     }
 
     fn set_list_again(&mut self, list: Listed) -> Result<(), AllocError> {
-        if self.set_list(list)? {
+        if self.has_some(list) && self.set_list(list)? {
             self.keep_set(list)?;
         }
         Ok(())
     }
 
+    // Whether a list has a breakpoint.
+    fn has_some(&self, list: Listed) -> bool {
+        for breakpoint in self.breakpoints.as_slice() {
+            if breakpoint.list() == list {
+                return true;
+            }
+        }
+        false
+    }
+
     /// Deletes the breakpoint of a number, or all.
     pub(crate) fn delete(&mut self, number: Option<u32>) -> Result<(), AllocError> {
         let Some(number) = number else {
-            self.breakpoints.clear();
-            return self.set_again();
+            return self.delete_all();
         };
         match taken(&mut self.breakpoints, number) {
             Some(breakpoint) => self.unset(&breakpoint),
             None => self.refuse_number("breakpoint", number),
         }
+    }
+
+    fn delete_all(&mut self) -> Result<(), AllocError> {
+        self.breakpoints.clear();
+        self.set_list(Listed::Source)?;
+        self.set_list(Listed::Functions)?;
+        self.set_list(Listed::Instructions)?;
+        Ok(())
     }
 
     // A breakpoint was taken from the list: the session is told of the others.
