@@ -39,13 +39,14 @@ def without(name, **others):
 
 
 class Terminal(Limited):
-    """The program in a terminal, that shows neither what is typed nor a carriage return where a line ends. What does not lead to it is given."""
+    """The program in a terminal, that shows neither what is typed nor a carriage return where a line ends, and gives one line at a time, or all that
+    was typed. What does not lead to it is given."""
 
-    def __init__(self, *words, environment=None, **streams):
+    def __init__(self, *words, environment=None, by_lines=True, **streams):
         self.ours, its = pty.openpty()
         attributes = termios.tcgetattr(its)
         attributes[1] &= ~termios.OPOST
-        attributes[3] &= ~termios.ECHO
+        attributes[3] &= ~(termios.ECHO if by_lines else termios.ECHO | termios.ICANON)
         termios.tcsetattr(its, termios.TCSANOW, attributes)
         super().__init__(["debug", *words], environment, **{"stdin": its, "stdout": its, "stderr": subprocess.PIPE, **streams})
         os.close(its)
@@ -242,14 +243,28 @@ def enter_pauses_a_program_that_runs():
                 expect(PROMPT in terminal.more(0), False, "a prompt while it runs")
                 terminal.type(typed)
                 terminal.is_asked()
+                terminal.type(b"print 7\n")
+                expect(terminal.is_asked(), b"0x00000007  7\n" + PROMPT, "the next line, after %r" % typed)
                 terminal.type(b"\x04")
                 expect(terminal.end()[1], 0, "the status")
+        with Terminal(path) as terminal:
+            terminal.is_asked()
+            terminal.type(b"stepi 1000000\n")
+            time.sleep(0.3)
+            terminal.type(b"\n")
+            expect(b"paused" in terminal.is_asked(), True, "the rest of a count is not made")
+            terminal.type(b"quit\n")
+            expect(terminal.end()[1], 0, "the status")
         with Terminal(path) as terminal:
             terminal.is_asked()
             terminal.type(b"continue\n")
             time.sleep(0.3)
             terminal.type(b"\x04")
             expect(terminal.end()[1], 0, "the status where the input ends while it runs")
+        with Terminal(path, by_lines=False) as terminal:
+            terminal.is_asked()
+            terminal.type(b"continue\n\nquit\n")
+            expect(terminal.end()[1], 0, "the status where all lines come at once")
 
 
 def a_script_leaves_the_terminal_to_who_sits_there():
@@ -279,7 +294,7 @@ def a_prompt_stands_where_it_is_typed():
 def a_file_is_launched_anew_or_as_it_was():
     with file_of(b"nop\n") as path, Terminal(path) as terminal:
         terminal.is_asked()
-        for text, told in ((b"call f\n", b":1:6: error: Undefined: "), (None, b": cannot read\n"), (b"nop\nnop\n", b"")):
+        for text, told in ((b"call f\n", b":1:6: error: Undefined: "), (None, b": cannot read\n"), (b"nop\nret\n", b"")):
             if text is None:
                 os.remove(path)
             else:
@@ -288,8 +303,16 @@ def a_file_is_launched_anew_or_as_it_was():
             terminal.type(b"run\n")
             said = terminal.is_asked()
             expect((path.encode() + told in said if told else True, b"the program is launched as it was\n" in said), (True, bool(told)), "a launch: %r" % said)
+            expect(b"  ret\n" in said, not told, "the program that is launched: %r" % said)
         terminal.type(b"quit\n")
         expect(terminal.end()[1], 0, "the status")
+    with file_of(b"nop\n") as path, Limited(["debug", path], None, stdin=subprocess.PIPE, stdout=subprocess.PIPE) as played:
+        played.process.stdout.readline()
+        os.remove(path)
+        played.process.stdin.write(b"run\nquit\n")
+        played.process.stdin.close()
+        said = played.process.stdout.read()
+        expect((b": cannot read\n" in said, played.status()[0]), (True, 1), "a script whose program is gone: %r" % said)
 
 
 def there_are_colours_in_a_terminal_unless_they_are_refused():
