@@ -2,7 +2,7 @@
 use Rattle.std.proofs.Common.{◌≡◌, arith, get_or, refl, ℕ, List, Option, Some, None, slice_get}
 use Rattle.std.proofs.lemmas.List.Elements.{All-map}
 use Rattle.facts.specs.Facts.{Facts}
-use Rattle.console.specs.Private.Pages.{all_known, known, piece_of, pieces_of, word_at}
+use Rattle.console.specs.Private.Pages.{known, piece_of, pieces_of, word_at}
 use Rattle.console.specs.Screens.{AreKnown, HasWord, IsKnown, listed}
 use Rattle.console.specs.declared.page.Part.{Part}
 use Rattle.console.specs.declared.page.Part.TheVariants as part
