@@ -26,7 +26,7 @@ pub use Rattle.statements.specs.declared.statement.Statement.{Statement}
 pub use Rattle.std.proofs.Common.{[], ap, append_assoc, arith, Bool, codes, cond, drop, eqb, Err, false, get_or, length, length-append, List, lit<, lit≤, ltb, map, None, Ok, Option, refl, Result, Some, String, subst, sym, true, ℕ, ◌%◌, ◌&&◌, ◌*◌, ◌++◌, ◌+◌, ◌-◌, ◌<◌, ◌==◌, ◌^◌, ◌∙◌, ◌∷◌, ◌≡◌, ◌≤◌}
 pub use Rattle.std.proofs.lemmas.Bool.{and_from, and_parts, false_from_ne_true}
 pub use Rattle.std.proofs.lemmas.Bool.Decides.{nat_tests}
-pub use Rattle.std.proofs.lemmas.List.{append-nil, at_drop_all, at_drop_more, length-replicate, length_push}
+pub use Rattle.std.proofs.lemmas.List.{append-nil, at_drop_all, at_drop_more, length-replicate}
 pub use Rattle.std.specs.List.{list_all, list_any, onto_first, slice_split}
 pub use Rattle.std.specs.Prelude.{All, IfSome, nat_le, nat_lt, not, ◌||◌}
 pub use Rattle.std.specs.Str.{bytes_eq, is_utf8, IsUtf8}

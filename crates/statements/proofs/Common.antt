@@ -2,7 +2,7 @@
 pub use Rattle.byte_strings.proofs.Below.{all_below_at}
 pub use Rattle.byte_strings.proofs.Conjunctions.{all_append, all_reverse, and_both, and_left, and_right}
 pub use Rattle.byte_strings.proofs.Trimming.{all_gone, bare, begins_blank, between, blanks_go, led, others_stay, round, trimmed_bare, trimmed_begins, trimmed_ends}
-pub use Rattle.byte_strings.proofs.Divided.{fields_none, fields_some, left, shape}
+pub use Rattle.byte_strings.proofs.Divided.{shape}
 pub use Rattle.byte_strings.specs.Blanks.{is_blank, trimmed, without_leading_blanks, without_trailing_blanks}
 pub use Rattle.byte_strings.specs.Fields.{fields, fields_after, parted, parted_at}
 pub use Rattle.numerals.specs.Numerals.{magnitude as numeral_of, magnitude_by as numeral_by, numeral, prefixed, within}
@@ -36,13 +36,13 @@ pub use Rattle.statements.specs.declared.operations.Condition.{Condition}
 pub use Rattle.statements.specs.declared.statement.Statement.{Statement}
 pub use Rattle.statements.specs.declared.statement.Target.{Target}
 pub use Rattle.statements.specs.declared.statement.Target.TheVariants.{Address, Label}
-pub use Rattle.std.proofs.Common.{[], ap, append-nil, append_assoc, arith, Bool, bytes_eq, codes, cond, count_by, Decides, decimal, drop, drop_at, eq-eqb, eqb-true, Err, false, get_or, if◌then◌else◌, inl, inr, is_some, IsUtf8, leb, length, length-append, List, lit<, ltb, ltb-false, ltb-true, map, MatchOption, nat_lt, negsuc, None, not, Ok, Option, option_copied, option_map, pos, position, refl, Result, reverse, rules, Some, subst, suc, sym, take, take-append-drop, take_at, true, ℕ, ⊎_elim, ◌%◌, ◌&&◌, ◌*◌, ◌++◌, ◌+◌, ◌-◌, ◌/◌, ◌<◌, ◌==◌, ◌^◌, ◌||◌, ◌∙◌, ◌∷◌, ◌≡◌, ◌≤◌, ◌⊎◌}
+pub use Rattle.std.proofs.Common.{[], ap, append-nil, append_assoc, arith, Bool, bytes_eq, codes, cond, Decides, decimal, drop, drop_at, eq-eqb, eqb-true, Err, false, get_or, if◌then◌else◌, inl, inr, IsUtf8, leb, length, length-append, List, lit<, ltb, ltb-false, ltb-true, map, MatchOption, nat_lt, negsuc, None, not, Ok, Option, option_copied, pos, position, refl, Result, reverse, rules, Some, subst, suc, sym, take, take-append-drop, take_at, true, ℕ, ⊎_elim, ◌%◌, ◌&&◌, ◌*◌, ◌++◌, ◌+◌, ◌-◌, ◌/◌, ◌<◌, ◌==◌, ◌^◌, ◌||◌, ◌∙◌, ◌∷◌, ◌≡◌, ◌≤◌, ◌⊎◌}
 pub use Rattle.std.proofs.Math.Seq.{drop-append-add, drop-append_seam, take-append_seam}
 pub use Rattle.std.proofs.lemmas.Bool.{and_parts, cases_Bool, cond-false, cond-true, cond_both, eqb-false, false_from_ne_true, MatchBool-at_false, MatchBool-at_true, not-false, not-true}
 pub use Rattle.std.proofs.lemmas.Bool.Decides.{Decides-and, Decides-ltb, nat_tests}
 pub use Rattle.std.proofs.lemmas.List.Folds.{list_all-append, list_all-map}
 pub use Rattle.std.proofs.lemmas.List.Quantifiers.{position-Some}
-pub use Rattle.std.proofs.lemmas.List.Splits.{join_with_byte-slice_split, length-slice_split, slice_split_first, slice_split_none}
+pub use Rattle.std.proofs.lemmas.List.Splits.{join_with_byte-slice_split}
 pub use Rattle.std.proofs.lemmas.Slice.Eq.{bytes_eq-Decides}
 pub use Rattle.std.specs.Fmt.{digits, signed_decimal}
-pub use Rattle.std.specs.List.{join_with_byte, list_all, position_or_len, slice_split}
+pub use Rattle.std.specs.List.{join_with_byte, list_all, position_or_len}
