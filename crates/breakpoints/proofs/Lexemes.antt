@@ -1,5 +1,5 @@
 -- Words and signs: what they begin with, and what spells a token.
-use Rattle.breakpoints.proofs.Common.{[], And, and_from, and_parts, AndThen, ap, arith, Bool, Bracket, closing, cond, eqb-true, Equal, Err, false, Greater, GreaterEqual, Infix, inl, inr, is_blank, is_lexeme, is_sign, is_sign_byte, is_sign_pair, is_word, is_word_byte, length, Less, LessEqual, List, Minus, Names, None, not, NotEqual, Ok, opening, Or, or_left, or_right, OrElse, Plus, refl, Round, ShiftLeft, ShiftRight, sign_of, Some, Spells, Square, sym, Times, Token, true, Xor, ℕ, ◌&&◌, ◌++◌, ◌==◌, ◌||◌, ◌∙◌, ◌∷◌, ◌≡◌, ◌≤◌, ◌⊎◌}
+use Rattle.breakpoints.proofs.Common.{[], and_from, and_parts, ap, arith, Bool, Bracket, closing, cond, eqb-true, Err, false, Infix, inl, inr, is_blank, is_lexeme, is_sign, is_sign_byte, is_sign_pair, is_word, is_word_byte, length, List, Names, None, not, Ok, opening, or_left, or_right, OrElse, refl, Round, sign_of, Some, Spells, Square, sym, Token, true, ℕ, ◌&&◌, ◌++◌, ◌==◌, ◌||◌, ◌∙◌, ◌∷◌, ◌≡◌, ◌≤◌, ◌⊎◌}
 use Rattle.std.specs.Char.{is_digit}
 use Rattle.std.specs.Str.Parse.{digits_value}
 use Rattle.numerals.specs.declared.NumeralError.TheVariants.{Malformed}

@@ -1,10 +1,8 @@
 -- Words, and what no token is spelled by.
-use Rattle.breakpoints.proofs.Common.{[], And, and_parts, AndThen, ap, arith, Bool, Bracket, closing, codes, eqb-true, Equal, Err, false, get_or, Greater, GreaterEqual, IfSome, if◌then◌else◌, Infix, inl, inr, Less, LessEqual, List, ltb, MatchOption, Minus, name_of, Names, names, None, NotEqual, numbered_name_of, numbered_names, Ok, opening, Option, Or, OrElse, Plus, refl, Result, Round, ShiftLeft, ShiftRight, sign_in, sign_of, Some, Spells, SpellsOrNot, Square, suc, sym, Times, Token, true, Xor, zero, ℕ, ⊤, ◌&&◌, ◌<◌, ◌==◌, ◌∙◌, ◌∷◌, ◌≡◌}
-use Rattle.std.specs.List.{list_all, position}
-use Rattle.std.proofs.lemmas.Bool.Decides.{nat_tests}
+use Rattle.breakpoints.proofs.Common.{and_parts, ap, Bool, Bracket, closing, codes, eqb-true, Err, false, IfSome, if◌then◌else◌, Infix, inl, inr, List, MatchOption, name_of, Names, names, None, numbered_name_of, numbered_names, Ok, opening, Option, OrElse, refl, Result, Round, sign_in, sign_of, Some, Spells, SpellsOrNot, Square, sym, Token, true, ℕ, ⊤, ◌&&◌, ◌==◌, ◌∙◌, ◌≡◌}
+use Rattle.std.specs.List.{position}
 use Rattle.byte_strings.proofs.Below.{all_below, all_below_at}
-use Rattle.std.specs.Str.{IsUtf8, bytes_eq}
-use Rattle.std.proofs.lemmas.Str.{IsUtf8-from_ascii}
+use Rattle.std.specs.Str.{bytes_eq}
 use Rattle.numerals.specs.Numerals.{magnitude}
 use Rattle.numerals.specs.declared.NumeralError.{NumeralError}
 use Rattle.breakpoints.specs.declared.token.Token.TheVariants as t
@@ -47,20 +45,6 @@ pub word_or_not : (bytes : List ℕ) (found : Option Token) → sign_in bytes �
 word_or_not bytes None sign pc number some none = unspelled bytes sign pc number none
 word_or_not bytes (Some token) sign pc number some none = some
 
--- ---- names are ASCII
-
-pub is_ascii : List ℕ → Bool
-is_ascii text = list_all (λ b. ltb b 128) text
-
-ascii_at : (text : List ℕ) → list_all (λ b. ltb b 128) text ≡ true → (i : ℕ) → get_or text i 0 < 128
-ascii_at [] h i = omega arith
-ascii_at (b ∷ text) h zero = let t : ltb b 128 ≡ true = (and_parts (ltb b 128) _ h).0 in grind (arith, nat_tests)
-ascii_at (b ∷ text) h (suc i) = ascii_at text (and_parts (ltb b 128) _ h).1 i
-
-ascii_is_utf8 : (text : List ℕ) → is_ascii text ≡ true → IsUtf8 text
-unfolding is_ascii
-ascii_is_utf8 text h = IsUtf8-from_ascii text (ascii_at text h)
-
 -- a test that each name passes, by trying all
 pub named_passes : (p : List ℕ → Bool) → all_below 32 (λ n. p (name_of n) && p (numbered_name_of n)) ≡ true → p (codes "fp") ≡ true
     → (name : List ℕ) (r : ℕ) → Names name r → p name ≡ true
@@ -75,10 +59,6 @@ named_passes p all fp name r h =
         | inr f ↦ ap p f.0 ∙ fp
       ]
     ]
-
-pub names_are_utf8 : (name : List ℕ) (r : ℕ) → Names name r → IsUtf8 name
-unfolding is_ascii all_below
-names_are_utf8 name r h = ascii_is_utf8 name (named_passes is_ascii refl refl name r h)
 
 -- ---- bytes spell one token at most: the one that they can spell is computed
 

@@ -11,7 +11,7 @@ ghost use Rattle.breakpoints.specs.Tokens.{is_lexeme, is_sign, is_sign_byte, is_
 use crate::token::{Bracket, Infix, Token};
 use byte_strings::is_blank;
 use numerals::magnitude;
-use rv32i::{Reg, reg_of};
+use rv32i::{Reg, reg_in};
 use std::alloc::{AllocError, Global};
 
 /// The tokens of a text. `None`: it has a word or a sign that is no token.
@@ -209,17 +209,7 @@ fn register_in(bytes: &[u8]) -> Option<Token>
     ensures names { IfSome result (λ token. Spells token bytes.now) }
     ensures none { MatchOption result ((r : ℕ) → Names bytes.now r → ⊥) (λ token. ⊤) }
 {
-    match str::from_utf8(bytes) {
-        Ok(name) => register_named(name),
-        Err(_) => None,
-    }
-}
-
-fn register_named(name: &str) -> Option<Token>
-    ensures names { IfSome result (λ token. Spells token name.now) }
-    ensures none { MatchOption result ((r : ℕ) → Names name.now r → ⊥) (λ token. ⊤) }
-{
-    match reg_of(name) {
+    match reg_in(bytes) {
         Some(number) => Some(Token::Register(Reg::new(number as u8))),
         None => None,
     }

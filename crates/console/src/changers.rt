@@ -2,8 +2,7 @@
 
 use crate::expressions::{Token, token_in};
 use prompt::Direction;
-use rv32i::{Instr, destination, reg_of};
-use std::str;
+use rv32i::{Instr, destination, reg_in};
 
 /// What an expression reads: its value is another one only where one of these is.
 #[derive(Clone, Copy)]
@@ -46,16 +45,12 @@ impl Reads {
     }
 
     fn add(&mut self, name: &[u8]) {
-        match str::from_utf8(name) {
-            Ok("pc") => self.pc = true,
-            Ok(name) => {
-                if let Some(number) = reg_of(name)
-                    && let Some(is_read) = self.registers.get_mut(number as usize)
-                {
-                    *is_read = true;
-                }
-            }
-            Err(_) => {}
+        if name == b"pc".as_slice() {
+            self.pc = true;
+        } else if let Some(number) = reg_in(name)
+            && let Some(is_read) = self.registers.get_mut(number as usize)
+        {
+            *is_read = true;
         }
     }
 

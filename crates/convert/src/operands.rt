@@ -6,9 +6,8 @@ use crate::names::Names;
 use crate::values::value_of;
 use byte_strings::trimmed;
 use numerals::{NumeralError, magnitude};
-use rv32i::reg_of;
+use rv32i::reg_in;
 use std::alloc::{AllocError, Global};
-use std::str;
 
 /// What is known of the names in operands.
 #[derive(Drop)]
@@ -21,10 +20,7 @@ pub(crate) struct Known {
 
 /// Whether a text names a register.
 pub(crate) fn is_register(text: &[u8]) -> bool {
-    match str::from_utf8(text) {
-        Ok(name) => reg_of(name).is_some(),
-        Err(_) => false,
-    }
+    reg_in(text).is_some()
 }
 
 impl Known {

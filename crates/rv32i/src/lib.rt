@@ -21,7 +21,7 @@ pub use encoding::encode;
 pub use fields::{BranchOffset, FenceSet, Imm, JumpOffset, Reg, Shamt, Upper};
 pub use hart::Hart;
 pub use instr::Instr;
-pub use names::{reg_name, reg_named, reg_of};
+pub use names::{reg_in, reg_name, reg_named, reg_of};
 pub use performing::{Halt, perform};
 pub use stepped::{Cause, Stepped};
 pub use text::{push_digits, text_of};

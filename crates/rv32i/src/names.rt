@@ -109,11 +109,18 @@ pub fn reg_named(name: &[u8]) -> Option<u32>
 pub fn reg_of(name: &str) -> Option<u32>
     ensures { NamesOrNot name.now result }
 {
-    if name == "fp" {
+    reg_in(name.as_bytes())
+}
+
+/// The same of bytes, which may be no text at all.
+pub fn reg_in(bytes: &[u8]) -> Option<u32>
+    ensures { NamesOrNot bytes.now result }
+{
+    if bytes == b"fp".as_slice() {
         return Some(8);
     }
-    let number = candidate(name.as_bytes()) % 32;
-    if name == reg_name(number) || name == numbered_name(number) {
+    let number = candidate(bytes) % REGISTERS;
+    if bytes == reg_name(number).as_bytes() || bytes == numbered_name(number).as_bytes() {
         return Some(number);
     }
     None

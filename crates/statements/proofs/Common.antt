@@ -11,7 +11,7 @@ pub use Rattle.rv32i.specs.Names.{name_of, names, Names, numbered_name_of, numbe
 pub use Rattle.rv32i.specs.Texts.{access_text, branch_text, eight_digits, HasText, hex_digit, is_plain_fence, registers_text, set_text, shift_text, upper_text, with_three, with_two}
 pub use Rattle.statements.specs.Directives.{all_of, are_formed, before_others, is_bad, is_formed, item_in, items_in, items_of, number_item, OrNoMemory, stated}
 pub use Rattle.statements.specs.Grammar.{AllBlank, BeginsWith, Division, IsLine, IsSpoken, IsStatement, Labelled, means, says, Spoken}
-pub use Rattle.statements.specs.Instructions.{and_then, branch, constant, fence_of, jump, lower, one, Said, store_lower, upper_by, upper_in}
+pub use Rattle.statements.specs.Instructions.{and_then, constant, fence_of, lower, one, Said, store_lower, upper_by, upper_in}
 pub use Rattle.statements.specs.Mnemonics.{access_mnemonics, branch_mnemonics, copy_mnemonics, directives, first_named, immediate_mnemonics, jump_mnemonics, mnemonic_of, or_else, plain_mnemonics, register_mnemonics, zero_branch_mnemonics}
 pub use Rattle.statements.specs.Numbers.{bits_by, bits_in, magnitude_by, number_by, number_in, signed}
 pub use Rattle.statements.specs.OperandLaws.{AreOperands, begins_high, begins_low, bits, commas, DigitsWrite, divided, in_brackets, in_spaced_brackets, is_no_offset, is_offset, is_quiet, is_unclosed, IsInner, IsNumber, IsOperand, labelled, line_with, low_of, none, NoOffsetIsZero, NumbersHaveRanges, PartsOfAddresses, RegistersHaveNames, SameAddress, SameImmediate, takes_address, TakesNumbers, WritesMagnitude}

@@ -10,7 +10,7 @@ use crate::number::bits_in;
 use crate::spelling::stripped;
 use crate::statement::Target;
 use byte_strings::{parted, trimmed, without_leading_blanks};
-use rv32i::{FenceSet, Imm, Reg, reg_of};
+use rv32i::{FenceSet, Imm, Reg, reg_in};
 
 /// The lower 12 bits of something.
 #[derive(Drop)]
@@ -34,10 +34,7 @@ pub(crate) struct Access<'a> {
 pub(crate) fn register_in(text: &[u8]) -> Result<Reg, LineError>
     ensures { result ≡ spec.register_in text.now }
 {
-    let Some(name) = name_in(text) else {
-        return Err(LineError::BadOperand);
-    };
-    match reg_of(name.as_str()) {
+    match reg_in(text) {
         Some(number) => Ok(Reg::new(number as u8)),
         None => Err(LineError::BadOperand),
     }
