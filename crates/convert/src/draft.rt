@@ -6,7 +6,7 @@ use crate::calls::{EXIT, is_known, lead_to_call, number_in_a7};
 use crate::comments::code_of;
 use crate::converting::Conversion;
 use crate::directives::{ends_part, is_section};
-use crate::fields::{after_prefix, before_comment, fields, indentation, word_of};
+use crate::fields::{after_prefix, fields, indentation, word_of};
 use crate::local_labels::{LocalLabels, local_number};
 use crate::names::Names;
 use crate::operands::Known;
@@ -16,7 +16,7 @@ use crate::rewriting::{NO_MACROS, Rewritten, push_statement, stands};
 use byte_strings::trimmed;
 use image::FIRST_ADDRESS;
 use rv32i::Instr;
-use statements::{Line, LineError, Statement, read_line};
+use statements::{Line, LineError, Statement, read_line, without_comment};
 use std::alloc::{AllocError, Global};
 
 const EXITS: &str = "call 10 ends a program elsewhere: here call 93 does, with the exit code in a0";
@@ -381,7 +381,7 @@ impl Draft {
 // Why what a line became can't be read: a sum in the line has a label in it.
 fn reason_of(error: LineError, line: &[u8]) -> Reason {
     match error {
-        LineError::BadOperand if before_comment(line).contains(&b'+') => Reason::Words(NO_SUMS),
+        LineError::BadOperand if without_comment(line).contains(&b'+') => Reason::Words(NO_SUMS),
         _ => Reason::Assembler(kind_of(error)),
     }
 }
@@ -396,7 +396,7 @@ fn first_line(text: &[u8]) -> (&[u8], &[u8]) {
 
 // The labels of a line that is read.
 fn labels_of(text: &[u8]) -> &[u8] {
-    let code = before_comment(text);
+    let code = without_comment(text);
     match code.iter().rposition(|b| *b == b':') {
         Some(end) if end < code.len() => trimmed(&code[..end + 1]),
         _ => b"",

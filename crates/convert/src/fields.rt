@@ -69,14 +69,6 @@ pub(crate) fn word_of(text: &[u8]) -> (&[u8], &[u8]) {
     }
 }
 
-/// What a line of this language has before its comment.
-pub(crate) fn before_comment(line: &[u8]) -> &[u8] {
-    match line.iter().position(|b| *b == b'#') {
-        Some(end) => &line[..end],
-        None => line,
-    }
-}
-
 /// The blanks that a line begins with.
 pub(crate) fn indentation(line: &[u8]) -> &[u8] {
     match line.iter().position(|b| !is_blank(*b)) {

@@ -1,7 +1,7 @@
 //! A statement of another assembler, rewritten.
 
 use crate::directives::{Directive, Ending, directive_of};
-use crate::fields::{before_comment, fields, is_name, word_of};
+use crate::fields::{fields, is_name, word_of};
 use crate::instructions::{mnemonic_of, push_instruction};
 use crate::names::Names;
 use crate::operands::{Known, push_signed};
@@ -9,7 +9,7 @@ use crate::texts::bytes_of;
 use crate::unsaid::why_unsaid;
 use crate::values::value_of;
 use byte_strings::trimmed;
-use statements::{LineError, read_line};
+use statements::{LineError, read_line, without_comment};
 use std::alloc::{AllocError, Global};
 use std::str;
 
@@ -40,7 +40,7 @@ const NO_FILLING: &str = "the bytes of a space are 0 here: write others as .byte
 /// Whether a line, or a statement of it, can stand as it is: it is one of this language, and names no constant.
 pub(crate) fn stands(alloc: Global, line: &[u8], names: &Names) -> Result<bool, AllocError> {
     match read_line(alloc, line) {
-        Ok(_) => Ok(!names.has_constant_in(before_comment(line))),
+        Ok(_) => Ok(!names.has_constant_in(without_comment(line))),
         Err(LineError::NoMemory) => Err(AllocError),
         Err(_) => Ok(false),
     }

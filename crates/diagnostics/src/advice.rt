@@ -5,8 +5,8 @@ use crate::kinds::{Kind, is_of};
 use crate::literals::{binary, character, negated};
 use crate::nearest::takes;
 use crate::operands::{Operand, operand_at, operand_text, text_of};
-use crate::parts::is_name;
 use byte_strings::parted;
+use statements::is_name;
 use std::alloc::{AllocError, Global};
 
 /// A statement whose mnemonic is known.

@@ -10,14 +10,12 @@ use crate::labels::{Labels, twice_defined, undefined, undefined_words};
 use crate::operands::{
     Operand, at_fault, blank_operand, count_of, operand_at, operand_named, text_of,
 };
-use crate::parts::{
-    column_of, is_name, label_part, mnemonic_of, operands_of, statement_of, without_comment,
-};
+use crate::parts::{column_of, label_part, mnemonic_of, operands_of, statement_of};
 use crate::places::{Place, place_words};
 use crate::statements_at_fault::{blank_words, nameless_words, unknown_words};
 use assembler::AsmErrorKind;
 use byte_strings::without_leading_blanks;
-use statements::{Line, LineError, Statement, read_line};
+use statements::{Line, LineError, Statement, is_name, read_line, without_comment};
 use std::alloc::{AllocError, Global};
 
 /// What is told of a line with an error.

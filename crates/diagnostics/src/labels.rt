@@ -8,9 +8,8 @@ ghost use Rattle.diagnostics.specs.Errors as spec;
 
 use crate::kinds::{Kind, is_of};
 use crate::nearest::distance;
-use crate::parts::is_name;
 use indexmap::IndexMap;
-use statements::{Item, LineError, Name, Statement, Target, read_line};
+use statements::{Item, LineError, Name, Statement, Target, is_name, read_line};
 use std::alloc::{AllocError, Global};
 
 /// Among how many labels at most the nearest one is sought.

@@ -2,52 +2,13 @@
 //! that its length says where it begins.
 
 ghost use Rattle.std.specs.Prelude.{◌≡◌, ◌<◌, ◌==◌, ◌∷◌, length, position, IfSome};
-ghost use Rattle.std.specs.List.{list_all};
 ghost use Rattle.std.specs.Option.{option_copied, option_map};
 ghost use Rattle.byte_strings.specs.Blanks.{is_blank, without_leading_blanks};
 ghost use Rattle.diagnostics.specs.Parts as spec;
-ghost use Rattle.statements.specs.Reading.{without_comment};
-ghost use Rattle.statements.specs.Spelling.{begins_name, is_name, is_name_byte};
+ghost use Rattle.statements.specs.Spelling.{is_name};
 
 use byte_strings::{is_blank, parted, without_leading_blanks};
-
-/// What stands before a comment.
-pub(crate) fn without_comment(line: &[u8]) -> &[u8]
-    ensures { result.now ≡ without_comment line.now }
-{
-    match parted(b'#', line) {
-        Some((content, _)) => content,
-        None => line,
-    }
-}
-
-fn begins_name(byte: u8) -> bool
-    ensures { result ≡ begins_name byte }
-{
-    byte.is_ascii_alphabetic() || byte == b'_' || byte == b'.'
-}
-
-fn is_name_byte(byte: u8) -> bool
-    ensures { result ≡ is_name_byte byte }
-{
-    begins_name(byte) || byte.is_ascii_digit() || byte == b'$'
-}
-
-/// Whether a text is a name.
-pub(crate) fn is_name(text: &[u8]) -> bool
-    ensures { result ≡ is_name text.now }
-{
-    match text {
-        [] => false,
-        [first, rest @ ..] => begins_name(*first) && are_name_bytes(rest),
-    }
-}
-
-fn are_name_bytes(text: &[u8]) -> bool
-    ensures { result ≡ list_all is_name_byte text.now }
-{
-    text.iter().all(|b| is_name_byte(*b))
-}
+use statements::{is_name, without_comment};
 
 /// What a line has after its labels, without the blanks before it.
 pub(crate) fn statement_of(line: &[u8]) -> &[u8]

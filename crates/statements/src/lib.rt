@@ -22,5 +22,6 @@ pub use items::{Item, Items, Width};
 pub use line::{Labels, Line};
 pub use name::Name;
 pub use operations::{Condition, ImmediateOperation, StoreOperation, lower_part, upper_part};
-pub use reading::read_line;
+pub use reading::{read_line, without_comment};
+pub use spelling::is_name;
 pub use statement::{Statement, Target};

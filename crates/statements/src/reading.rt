@@ -93,8 +93,8 @@ fn label_before(field: &[u8]) -> Option<Name<'_>>
     name_in(without_leading_blanks(field))
 }
 
-// What stands before a comment.
-fn without_comment(line: &[u8]) -> &[u8]
+/// What stands before a comment, which a `#` begins.
+pub fn without_comment(line: &[u8]) -> &[u8]
     ensures { result.now ≡ spec.without_comment line.now }
 {
     match parted(b'#', line) {

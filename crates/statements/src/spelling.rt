@@ -16,8 +16,8 @@ fn is_name_byte(byte: u8) -> bool
     begins_name(byte) || byte.is_ascii_digit() || byte == b'$'
 }
 
-/// Whether a text is a name.
-pub(crate) fn is_name(text: &[u8]) -> bool
+/// Whether a text is a name: a letter, `_` or `.`, and then letters, digits, `_`, `.` and `$`.
+pub fn is_name(text: &[u8]) -> bool
     ensures { result ≡ is_name text.now }
 {
     match text {
