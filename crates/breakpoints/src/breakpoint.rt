@@ -91,6 +91,7 @@ impl Breakpoint {
     }
 
     /// Looks at it: counts a hit, and says whether it stops.
+    #[inline]
     pub(crate) fn check(&mut self, pc: u32, hart: &Hart, memory: &Memory) -> bool
         ensures counted { self.new ≡ counted pc hart.now memory.now self.old }
         ensures stops { result ≡ stops pc hart.now memory.now self.old }
@@ -127,15 +128,13 @@ impl Breakpoint {
     }
 
     // Whether its condition is absent, not 0, or has no value.
+    #[inline(always)]
     fn holds(&self, hart: &Hart, memory: &Memory) -> bool
         ensures { result ≡ holds self.now.condition hart.now memory.now }
     {
         match &self.condition {
             None => true,
-            Some(condition) => match condition.value(hart, memory) {
-                Ok(value) => value != 0,
-                Err(_) => true,
-            },
+            Some(condition) => condition.holds(hart, memory),
         }
     }
 }

@@ -180,11 +180,12 @@ impl Breaks {
         ensures lists { self.new ≡ checked pc hart.now memory.now self.old }
         ensures hit { result ≡ hit_in pc hart.now memory.now self.old }
     {
-        self.ids.clear();
-        self.logs.clear();
         if !self.has(pc) {
+            self.forget_ids();
             return NO_HIT;
         }
+        self.ids.clear();
+        self.logs.clear();
         push_logging(&mut self.logs, &self.source, pc, hart, memory);
         let source = check_list(&mut self.source, &mut self.ids, pc, hart, memory);
         let instruction = check_list(&mut self.instructions, &mut self.ids, pc, hart, memory);
@@ -202,11 +203,12 @@ impl Breaks {
         ensures lists { self.new ≡ looked pc hart.now memory.now self.old }
         ensures hit { result ≡ standing_in pc hart.now memory.now self.old }
     {
-        self.ids.clear();
-        self.logs.clear();
         if !self.has(pc) {
+            self.forget_ids();
             return NO_HIT;
         }
+        self.ids.clear();
+        self.logs.clear();
         let source = look_at(&self.source, &mut self.ids, pc, hart, memory);
         let instruction = look_at(&self.instructions, &mut self.ids, pc, hart, memory);
         let function = look_at(&self.functions, &mut self.ids, pc, hart, memory);

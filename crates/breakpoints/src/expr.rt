@@ -46,6 +46,7 @@ impl Expr {
     ghost use Rattle.std.specs.Prelude.{◌≡◌};
     ghost use Rattle.breakpoints.specs.Nodes.{read_as, tree_of};
     ghost use Rattle.breakpoints.specs.Texts.{Parses};
+    ghost use Rattle.breakpoints.specs.Stops.{is_no_zero};
     ghost use Rattle.breakpoints.specs.Values.{value_of};
 
     /// The expression of a text. `TooLong`: the text has more than 1,024 bytes; else `Syntax`: the grammar gives it no tree;
@@ -82,6 +83,28 @@ impl Expr {
         match outcome(&self.operations, hart, memory) {
             Some(found) => found,
             None => self.root.value(hart, memory),
+        }
+    }
+
+    /// Whether the value is not 0, or there is none.
+    #[inline(always)]
+    pub(crate) fn holds(&self, hart: &Hart, memory: &Memory) -> bool
+        ensures { result ≡ is_no_zero (value_of (tree_of self.now) hart.now memory.now) }
+    {
+        match &self.root {
+            Node::Number(number) => *number != 0,
+            _ => self.has_such_value(hart, memory),
+        }
+    }
+
+    // The same, where the value has to be worked out. It stays a function of its own, which keeps the loop over breakpoints short.
+    #[inline(never)]
+    fn has_such_value(&self, hart: &Hart, memory: &Memory) -> bool
+        ensures { result ≡ is_no_zero (value_of (tree_of self.now) hart.now memory.now) }
+    {
+        match self.value(hart, memory) {
+            Ok(value) => value != 0,
+            Err(_) => true,
         }
     }
 }

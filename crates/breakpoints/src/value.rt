@@ -93,8 +93,19 @@ fn enclosed(bracket: Bracket, value: u32, memory: &Memory) -> Result<u32, ExprFa
     }
 }
 
-/// The word at any address.
+/// The word at any address. At a multiple of 4 it lies in one page, and is read at once.
 pub(crate) fn word_anywhere(memory: &Memory, address: u32) -> Result<u32, ExprFault>
+    ensures { result ≡ word_anywhere memory.now address }
+{
+    match memory.word(address) {
+        Ok(word) => Ok(word),
+        Err(_) => word_by_bytes(memory, address),
+    }
+}
+
+// The same, by its bytes, wherever they lie.
+#[inline(never)]
+fn word_by_bytes(memory: &Memory, address: u32) -> Result<u32, ExprFault>
     ensures { result ≡ word_anywhere memory.now address }
 {
     let mut bytes = [0; 4];

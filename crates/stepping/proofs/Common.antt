@@ -29,7 +29,7 @@ pub use Rattle.stepping.specs.Private.Running.{AreCounted, counted_by, IsEnding,
 pub use Rattle.stepping.specs.RunLaws.{AnswersWith, CountsAnew, EachTickAnswers, EndingSays, EndsWithCodes, GoOn, HasSignedCode, HasTick, MovesEnd, number_after, RunsSayWhere, RunsStopThere, Says, StopIsUnique, TickIsDeterministic, TicksSayWhere}
 pub use Rattle.stepping.specs.Runs.{EndsRun, Goes, IsRun, MayLackMemory}
 pub use Rattle.stepping.specs.Stopping.{Advances, After, Answers, Applies, AppliesAt, AppliesAtEntry, entered, has_retired, NoneBelow, OneStops, place, StopsAt}
-pub use Rattle.stepping.specs.Ticks.{back_outcome, back_tick, Comes, course_of, Debugged, entry_checked, entry_tick, gone_back, gone_on, hit_at_pc, IsTick, looked_at, meets_goal, moved_as, Moves, outcome_of, outcome_or, position_of, seen, settled, stayed, tick_of, undone, undone_by, unless_start, went_on, with_check}
+pub use Rattle.stepping.specs.Ticks.{back_outcome, back_tick, Comes, course_of, Debugged, entry_checked, entry_tick, gone_back, gone_on, hit_at_pc, IsTick, looked_at, moved_as, Moves, outcome_of, outcome_or, position_of, seen, settled, stayed, tick_of, undone, undone_by, unless_start, with_check}
 pub use Rattle.stepping.specs.declared.burst.Burst.{Burst}
 pub use Rattle.stepping.specs.declared.burst.BurstEnd.{BurstEnd}
 pub use Rattle.stepping.specs.declared.goal.Goal.TheVariants.{Back, ReverseGo}

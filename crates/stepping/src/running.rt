@@ -201,14 +201,6 @@ impl Runner {
         ensures state { self.new ≡ with_check self.old }
     {
         let hart = self.course.hart();
-        if !self.breaks.has(hart.pc) {
-            self.breaks.forget_ids();
-            return Hit {
-                source: false,
-                instruction: false,
-                function: false,
-            };
-        }
         self.breaks.check(hart.pc, hart, self.course.memory())
     }
 

@@ -1,32 +1,14 @@
-use Rattle.breakpoints.proofs.Common.{ap, arith, checked, counted, hit_in, Lists, sym, vec_capacity, ◌∙◌}
+use Rattle.breakpoints.proofs.Common.{arith, counted, sym, vec_capacity, ◌∙◌}
 use Rattle.breakpoints.proofs.Lists.{counted_address, no_check, no_hit, still_kept}
 use Rattle.breakpoints.proofs.breaks.Breaks.check.Goals as goal
 
 pub returns-then-not-has-clause-lists : goal.returns-then-not-has-clause-lists
 returns-then-not-has-clause-lists c =
-    let lists : Lists = record {
-      source = c.self.inside.source.items;
-      instructions = c.self.inside.instructions.items;
-      functions = c.self.inside.functions.items;
-      ids = c.self.inside.ids.items;
-      logs = c.self.inside.logs.items;
-    } in
-    rw c.clear.ensures.items
-    (rw c.clear-2.ensures.items
-    (sym (ap (λ l. checked c.args.pc c.args.hart.now c.args.memory.now l) (sym c.self.view_is)
-    ∙ no_check c.args.pc c.args.hart.now c.args.memory.now lists (sym c.has.ensures ∙ c.if-not-has.true))))
+    c.forget_ids.ensures ∙ sym (no_check c.args.pc c.args.hart.now c.args.memory.now c.args.self.now (sym c.has.ensures ∙ c.if-not-has.true))
 
 pub returns-then-not-has-clause-hit : goal.returns-then-not-has-clause-hit
 returns-then-not-has-clause-hit c =
-    let lists : Lists = record {
-      source = c.self.inside.source.items;
-      instructions = c.self.inside.instructions.items;
-      functions = c.self.inside.functions.items;
-      ids = c.self.inside.ids.items;
-      logs = c.self.inside.logs.items;
-    } in
-    sym (ap (λ l. hit_in c.args.pc c.args.hart.now c.args.memory.now l) (sym c.self.view_is)
-    ∙ no_hit c.args.pc c.args.hart.now c.args.memory.now lists (sym c.has.ensures ∙ c.if-not-has.true))
+    sym (no_hit c.args.pc c.args.hart.now c.args.memory.now c.args.self.now (sym c.has.ensures ∙ c.if-not-has.true))
 
 pub check_list-instruction-requires : goal.check_list-instruction-requires
 check_list-instruction-requires c =
@@ -36,8 +18,8 @@ pub check_list-function-requires : goal.check_list-function-requires
 check_list-function-requires c =
     omega (arith, c.self.invariant.fits, c.clear.ensures.len, c.clear.ensures.capacity, c.check_list-source.ensures.count, c.check_list-source.ensures.room, c.check_list-instruction.ensures.count, c.check_list-instruction.ensures.room, c.self.inside.source.ok.0, c.self.inside.instructions.ok.0, c.self.inside.functions.ok.0)
 
-pub invariant_of-self-2 : goal.invariant_of-self-2
-invariant_of-self-2 c =
+pub invariant_of-self : goal.invariant_of-self
+invariant_of-self c =
     let kept = still_kept c.self.inside.places (counted c.args.pc c.args.hart.now c.args.memory.now)
     (counted_address c.args.pc c.args.hart.now c.args.memory.now) c.self.inside.source.items c.self.inside.instructions.items c.self.inside.functions.items
     (vec_capacity c.self.inside.ids) (vec_capacity c.check_list-function.new.ids) (vec_capacity c.self.inside.logs)
