@@ -5,7 +5,7 @@ use Rattle.rv32i.specs.declared.instr.Instr.TheVariants.{Sb, Sh, Sw}
 use Rattle.rv32i.specs.declared.stepped.Stepped.TheVariants.{Retired}
 use Rattle.rv32i.proofs.Undoing.{BackFrom, undoes}
 use Rattle.course.specs.declared.calls.Called.{Called}
-use Rattle.course.specs.declared.calls.Called.TheVariants.{Nothing, Pushed, PushedOut, Popped, PoppedFrom, Swapped, SwappedFrom}
+use Rattle.course.specs.declared.calls.Called.TheVariants.{Nothing}
 use Rattle.course.specs.declared.moves.Deed.{Deed}
 use Rattle.course.specs.declared.moves.Kind.{Kind}
 use Rattle.course.specs.declared.moves.Kind.TheVariants as kind

@@ -1,5 +1,5 @@
 -- An exit code has 32 bits.
-use Rattle.rv32i.proofs.Common.{Add, Addi, And, Andi, arith, Auipc, Beq, Bge, Bgeu, Blt, Bltu, Bne, Bool, branches, calls, cond, Ebreak, Ecall, Effect, effect_of, Encodes, eqb, Err, Exit, ExitCodesAreWords, false, fault_at, Fence, fetch_fault, HasCode, Illegal, Instr, IsDecoding, IsIllegal, Jal, Jalr, JumpMisaligned, jumps, Lb, Lbu, Lh, Lhu, linked, List, loads_unless, Lui, Lw, Machine, MatchResult, MemFault, Misaligned, NoMemory, None, Ok, Option, Or, Ori, Outside, Printed, Result, retired, Sb, Sh, signed, Sll, Slli, Slt, Slti, Sltiu, Sltu, Some, Sra, Srai, Srl, Srli, stores_unless, Sub, subst, sum, Sw, sym, trapped, true, UnknownCall, value, word_at, Xor, Xori, ℕ, ◌≡◌}
+use Rattle.rv32i.proofs.Common.{arith, Beq, Bge, Bgeu, Blt, Bltu, Bne, Bool, branches, calls, cond, Ecall, Effect, effect_of, Encodes, eqb, Err, Exit, ExitCodesAreWords, false, fault_at, fetch_fault, HasCode, Illegal, Instr, IsDecoding, IsIllegal, Jal, Jalr, JumpMisaligned, jumps, Lb, Lbu, Lh, Lhu, linked, List, loads_unless, Lw, Machine, MatchResult, MemFault, Misaligned, NoMemory, None, Ok, Option, Outside, Printed, Result, retired, Sb, Sh, signed, Some, stores_unless, subst, sum, Sw, sym, trapped, true, UnknownCall, value, word_at, ℕ, ◌≡◌}
 use Rattle.std.specs.Prelude.{◌%◌}
 use Rattle.std.proofs.lemmas.Int.{ints}
 use Rattle.rv32i.proofs.Moving.{the_decoding}

@@ -1,5 +1,5 @@
 -- A word has one text at an address.
-use Rattle.rv32i.proofs.Common.{Add, Addi, And, Andi, Auipc, Beq, Bge, Bgeu, Blt, Bltu, Bne, Bool, Coded, Ebreak, Ecall, Encodes, false, Fence, HasText, Instr, is_plain_fence, Jal, Jalr, Lb, Lbu, Lh, Lhu, List, Lui, Lw, Or, Ori, Sb, Sh, Sll, Slli, Slt, Slti, Sltiu, Sltu, Sra, Srai, Srl, Srli, Sub, subst, Sw, sym, TextIsUnique, true, word_text, Xor, Xori, ℕ, ◌∙◌, ◌≡◌}
+use Rattle.rv32i.proofs.Common.{Bool, Coded, Ebreak, Ecall, Encodes, false, Fence, HasText, Instr, is_plain_fence, List, subst, sym, TextIsUnique, true, word_text, ℕ, ◌∙◌, ◌≡◌}
 use Rattle.std.specs.Bool.{MatchBool}
 use Rattle.rv32i.specs.Texts.{Illegal}
 use Rattle.rv32i.proofs.Unique.{one_instruction}

@@ -1,7 +1,6 @@
 use Rattle.std.proofs.Common.{◌%◌, sym, ap, ◌∙◌}
 use Rattle.rv32i.proofs.Candidates.{names_none}
 use Rattle.rv32i.proofs.Texts.{differ}
-use Rattle.rv32i.specs.Private.Candidates.{candidate}
 
 pub returns : Rattle.rv32i.proofs.names.reg_in.Goals.returns
 returns c = names_none c.args.bytes.now _ (ap (λ n. n % 32) c.candidate-number.ensures)
