@@ -93,13 +93,13 @@ impl Expr {
     {
         match &self.root {
             Node::Number(number) => *number != 0,
-            _ => self.has_such_value(hart, memory),
+            _ => self.holds_by_value(hart, memory),
         }
     }
 
     // The same, where the value has to be worked out. It stays a function of its own, which keeps the loop over breakpoints short.
     #[inline(never)]
-    fn has_such_value(&self, hart: &Hart, memory: &Memory) -> bool
+    fn holds_by_value(&self, hart: &Hart, memory: &Memory) -> bool
         ensures { result ≡ is_no_zero (value_of (tree_of self.now) hart.now memory.now) }
     {
         match self.value(hart, memory) {

@@ -77,7 +77,7 @@ pub(crate) fn indentation(line: &[u8]) -> &[u8] {
     }
 }
 
-/// Whether a text is a name: a letter, `_` or `.`, and then letters, digits, `_`, `.` and `$`.
+/// Whether a text is a name as GNU as has them: letters, digits, `_`, `.` and `$`, with no digit first.
 pub(crate) fn is_name(text: &[u8]) -> bool {
     match text {
         [] => false,

@@ -112,7 +112,8 @@ pub fn reg_of(name: &str) -> Option<u32>
     reg_in(name.as_bytes())
 }
 
-/// The same of bytes, which may be no text at all.
+/// The number of the register that bytes name, as `reg_of` has it of a text. `None`: they name none; bytes that are
+/// no text never do.
 pub fn reg_in(bytes: &[u8]) -> Option<u32>
     ensures { NamesOrNot bytes.now result }
 {

@@ -93,7 +93,7 @@ fn label_before(field: &[u8]) -> Option<Name<'_>>
     name_in(without_leading_blanks(field))
 }
 
-/// What stands before a comment, which a `#` begins.
+/// What a line has before its comment, which a `#` begins; all of it where there is none.
 pub fn without_comment(line: &[u8]) -> &[u8]
     ensures { result.now ≡ spec.without_comment line.now }
 {
